@@ -100,8 +100,8 @@ get_or-block_at image r l place k below =
     ⊎_elim
     (λ h. ap (λ bytes. get_or bytes k 0) (block_at-sector image r l place h) ∙ get_or-sector image s k h below)
     (λ h.
-        ap (λ bytes. get_or bytes k 0) (block_at-padding image r l place h) ∙ get_or-padded 2048 [] k
-        ∙ sym (get_or_past image (2048 * s + k) 0 (let past : sectors_of (length image) ≤ s = h in omega arith)))
+    ap (λ bytes. get_or bytes k 0) (block_at-padding image r l place h) ∙ get_or-padded 2048 [] k
+    ∙ sym (get_or_past image (2048 * s + k) 0 (let past : sectors_of (length image) ≤ s = h in omega arith)))
     (cases_lt s (sectors_of (length image)))
 
 pub length-layer : (image : List ℕ) (r l : ℕ) → length (layer image r l) ≡ 255 - r
@@ -128,3 +128,11 @@ pub get_or-column-layer : (image : List ℕ) (r l b place : ℕ) → b < 2048 �
 get_or-column-layer image r l b place below h =
     get_or-column (layer image r l) b place (let n = length-layer image r l in omega (arith, n))
     ∙ ap (λ bytes. get_or bytes b 0) (get_or-layer image r l place h) ∙ get_or-block_at image r l place b below
+
+-- where the image has bytes, so has a codeword's data
+pub column-bytes : (image : List ℕ) (r l b k : ℕ) → b < 2048 → k < 255 - r → ((i : ℕ) → get_or image i 0 < 256)
+    → get_or (column (layer image r l) b) k 0 < 256
+column-bytes image r l b k below h bytes =
+    let at : ℕ = 2048 * number_at (sectors_of (length image)) r l k + b in
+    let e : get_or (column (layer image r l) b) k 0 ≡ get_or image at 0 = get_or-column-layer image r l b k below h in
+    omega (arith, bytes at, e)

@@ -1,4 +1,4 @@
 pub mod Sectors
 pub mod Layout
 pub mod Layer
-pub mod Laws
+pub mod Placing

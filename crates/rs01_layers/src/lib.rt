@@ -3,7 +3,12 @@
 
 pub mod blocks;
 pub mod extent;
+pub mod laws;
 pub mod shape;
 
+pub use blocks::{block_into, column_into};
 pub use extent::Extent;
 pub use shape::{Shape, ShapeRefusal};
+
+#[cfg(test)]
+mod tests;

@@ -2,7 +2,13 @@
 
 ghost use Rattle.std.specs.Prelude.{◌≡◌, ◌≢◌, ◌+◌, ◌-◌, ◌*◌, ◌<◌, ◌≤◌, ◌↔◌, ◌⊎◌, IfOk, IsOk};
 ghost use Rattle.rs01_layers.specs.Layout.{
-    IsShape, file_size, layer_of, layers_of, parity_offset, place_of, sector_at,
+  IsShape,
+  file_size,
+  layer_of,
+  layers_of,
+  parity_offset,
+  place_of,
+  sector_at,
 };
 
 use thiserror::Error;
@@ -43,10 +49,8 @@ impl Shape {
     pub fn new(sectors: u32, parity: u32) -> Result<Shape, ShapeRefusal>
         ensures no_sectors { (result ≡ Err ShapeRefusal.NoSectors) ↔ (sectors ≡ 0) }
         ensures too_many { (result ≡ Err ShapeRefusal.TooManySectors) ↔ (16777215 < sectors) }
-        ensures parity_range {
-            (result ≡ Err ShapeRefusal.ParityRange)
-                ↔ ((1 ≤ sectors) × (sectors ≤ 16777215) × ((parity < 8) ⊎ (100 < parity)))
-        }
+        ensures parity_range { (result ≡ Err ShapeRefusal.ParityRange)
+            ↔ ((1 ≤ sectors) × (sectors ≤ 16777215) × ((parity < 8) ⊎ (100 < parity))) }
         ensures accepted { IsOk result ↔ IsShape sectors parity }
         ensures shape { IfOk result (λ made. (made.sectors ≡ sectors) × (made.parity ≡ parity)) }
     {
@@ -136,6 +140,7 @@ impl Shape {
     pub fn file_size(&self) -> u64
         ensures { result ≡ file_size self.now.sectors self.now.parity }
     {
-        4096 + 4 * u64::from(self.sectors) + 2048 * u64::from(self.parity) * u64::from(self.layers())
+        4096 + 4 * u64::from(self.sectors)
+            + 2048 * u64::from(self.parity) * u64::from(self.layers())
     }
 }

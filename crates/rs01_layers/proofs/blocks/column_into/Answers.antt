@@ -15,9 +15,9 @@ column_is image into n layers r l b sectors count below room bytes =
     ext_get_or 0 into (column (layer image r l) b)
     (room ∙ sym (length-column (layer image r l) b ∙ length-layer image r l))
     (λ k h.
-        let same : layers ≡ layers_of (sectors_of (length image)) r = count ∙ ap (λ m. layers_of m r) (sym sectors) in
-        bytes k h ∙ ap (λ m. get_or image (2048 * (l + k * m) + b) 0) same
-        ∙ sym (get_or-column-layer image r l b k below (omega arith)))
+    let same : layers ≡ layers_of (sectors_of (length image)) r = count ∙ ap (λ m. layers_of m r) (sym sectors) in
+    bytes k h ∙ ap (λ m. get_or image (2048 * (l + k * m) + b) 0) same
+    ∙ sym (get_or-column-layer image r l b k below (omega arith)))
 
 pub returns : goal.returns
 returns c =
