@@ -1,0 +1,4 @@
+pub mod Sectors
+pub mod Layout
+pub mod Layer
+pub mod Placing

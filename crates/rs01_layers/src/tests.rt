@@ -1,0 +1,97 @@
+//! Shapes and extents by their numbers.
+use super::*;
+use std::test::Fail;
+
+fn shape(sectors: u32, parity: u32) -> Result<Shape, Fail> {
+    Ok(Shape::new(sectors, parity)?)
+}
+
+// A full single-layer disc.
+#[test]
+fn full_disc(rt: HostRuntime) -> Result<(), Fail> {
+    let disc = shape(2_298_496, 32)?;
+    assert_eq!(rt; disc.sectors(), 2_298_496);
+    assert_eq!(rt; disc.parity(), 32);
+    assert_eq!(rt; disc.data(), 223);
+    assert_eq!(rt; disc.layers(), 10_308);
+    assert_eq!(rt; disc.file_size(), 684_743_168);
+    assert_eq!(rt; disc.layer_of(1_000_000), 124);
+    assert_eq!(rt; disc.place_of(1_000_000), 97);
+    assert_eq!(rt; disc.parity_offset(124, 0), 17_324_544);
+    for (layer, last) in [
+        (0u32, Some(2_288_376u32)),
+        (10_119, Some(2_298_495)),
+        (10_120, None),
+        (10_307, None),
+    ] {
+        assert!(rt; layer < disc.layers());
+        assert_eq!(rt; disc.sector_at(layer, 222), last);
+        assert!(rt; disc.sector_at(layer, 221).is_some());
+    }
+    Ok(())
+}
+
+#[test]
+fn two_layers(rt: HostRuntime) -> Result<(), Fail> {
+    let two = shape(224, 32)?;
+    assert_eq!(rt; two.layers(), 2);
+    assert_eq!(rt; (two.layer_of(1), two.place_of(1)), (1, 0));
+    assert_eq!(rt; (two.layer_of(223), two.place_of(223)), (1, 111));
+    assert_eq!(rt;
+        (two.sector_at(1, 111), two.sector_at(1, 112)),
+        (Some(223), None)
+    );
+    assert_eq!(rt; two.file_size(), 136_064);
+    Ok(())
+}
+
+#[test]
+fn refused_shapes(rt: HostRuntime) {
+    for (sectors, parity, refusal) in [
+        (0u32, 32u32, Some(ShapeRefusal::NoSectors)),
+        (0, 7, Some(ShapeRefusal::NoSectors)),
+        (16_777_216, 32, Some(ShapeRefusal::TooManySectors)),
+        (1, 7, Some(ShapeRefusal::ParityRange)),
+        (1, 101, Some(ShapeRefusal::ParityRange)),
+        (16_777_215, 8, None),
+        (1, 100, None),
+    ] {
+        assert_eq!(rt; Shape::new(sectors, parity).err(), refusal);
+    }
+}
+
+#[test]
+fn extents(rt: HostRuntime) {
+    assert!(rt; Extent::of_len(0).is_none());
+    assert!(rt; Extent::of_len(2048 * 4_294_967_295 + 1).is_none());
+    for (len, sectors, last_bytes) in [
+        (1u64, 1u32, 1u32),
+        (2048, 1, 2048),
+        (2049, 2, 1),
+        (2048 * 4_294_967_295, 4_294_967_295, 2048),
+    ] {
+        let found = Extent::of_len(len);
+        assert!(rt; found.is_some());
+        if let Some(extent) = found {
+            assert_eq!(rt; (extent.sectors, extent.last_bytes), (sectors, last_bytes));
+            assert_eq!(rt; extent.image_len(), len);
+            assert_eq!(rt; extent.length(extent.sectors - 1), last_bytes);
+        }
+    }
+}
+
+#[test]
+fn bytes_of_a_short_image(rt: HostRuntime) -> Result<(), Fail> {
+    let mut image = vec![in rt.alloc(); 7u8; 2049]?;
+    image[2048] = 9;
+    let mut block = [1u8; 2048];
+    block_into(image.as_slice(), 1, 1, &mut block);
+    assert_eq!(rt; (block[0], block[1], block[2047]), (9, 0, 0));
+    let mut bytes = vec![in rt.alloc(); 1u8; 223]?;
+    let two = shape(2, 32)?;
+    column_into(image.as_slice(), &two, 0, 0, bytes.as_mut_slice());
+    assert_eq!(rt; (bytes[0], bytes[1], bytes[2], bytes[222]), (7, 9, 0, 0));
+    column_into(image.as_slice(), &two, 0, 1, bytes.as_mut_slice());
+    assert_eq!(rt; (bytes[0], bytes[1]), (7, 0));
+    Ok(())
+}
