@@ -1,0 +1,6 @@
+//! Making the error correction file of an image.
+#![tactic(auto)]
+
+pub mod image;
+mod refusal;
+pub mod write;
