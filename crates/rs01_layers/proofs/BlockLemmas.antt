@@ -1,11 +1,11 @@
 -- The bytes of blocks, of a layer and of a codeword's data.
-use Rattle.std.proofs.Common.{◌≡◌, ℕ, ◌+◌, ◌-◌, ◌*◌, ◌/◌, ◌<◌, ◌≤◌, ◌⊎◌, ⊎_elim, min, zero, suc, List, [], ◌∷◌, ◌++◌, length, get_or, take, drop, replicate, map, All, refl, sym, ap, ◌∙◌, arith, inl, inr, ltb, eqb, cond, length-append, length-drop}
+use Rattle.std.proofs.Common.{◌≡◌, ℕ, ◌+◌, ◌-◌, ◌*◌, ◌<◌, ◌≤◌, ⊎_elim, zero, suc, List, [], length, get_or, take, drop, replicate, refl, sym, ap, ◌∙◌, arith, ltb, eqb, length-append}
 use Rattle.std.proofs.lemmas.List.{length-take, length-replicate, get_or_append_left, get_or-append_right, get_or_past, get_or-take, get_or-drop, length-map, get_or-map}
 use Rattle.std.proofs.lemmas.Bool.{cases_lt, cases_eq, lt-ltb, le-ltb, eq-eqb, ne_eqb, cond-true, cond-false}
 use Rattle.std.proofs.lemmas.List.FromFn.{length-range_with_len, get_or-range_with_len}
 use Rattle.std.specs.List.{range_with_len}
 use Rattle.rs01_layers.specs.Sectors.{sectors_of, last_of, length_of, padded, block, sector}
-use Rattle.rs01_layers.specs.Layout.{number_at, layers_of}
+use Rattle.rs01_layers.specs.Layout.{number_at}
 use Rattle.rs01_layers.specs.Layer.{block_at, layer, column}
 
 pub length-padded : (width : ℕ) (bytes : List ℕ) → length bytes ≤ width → length (padded width bytes) ≡ width

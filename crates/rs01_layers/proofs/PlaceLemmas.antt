@@ -1,10 +1,10 @@
 -- The layout gives each sector and each parity byte one place.
-use Rattle.std.proofs.Common.{◌≡◌, ℕ, ◌+◌, ◌-◌, ◌*◌, ◌/◌, ◌%◌, ◌<◌, ◌≤◌, ⊎_elim, Some, None, ltb, cond, refl, sym, ap, ◌∙◌, arith}
+use Rattle.std.proofs.Common.{◌≡◌, ℕ, ◌+◌, ◌-◌, ◌*◌, ◌/◌, ◌%◌, ◌<◌, ◌≤◌, ⊎_elim, Some, None, ltb, sym, ap, ◌∙◌, arith}
 use Rattle.std.proofs.Math.Nat.{mul_comm, mod-lt}
 use Rattle.std.proofs.lemmas.Bool.{cases_lt, lt-ltb, le-ltb, cond-true, cond-false}
 use Rattle.std.proofs.lemmas.Nat.{div-add-mod', mul-add-lt, div-mul-add, mod-mul-add, same_from_place, div_below, mul-le}
 use Rattle.rs01_layers.specs.Layout.{IsShape, layers_of, layer_of, place_of, number_at, sector_at, parity_offset, file_size}
-use Rattle.rs01_layers.specs.Placing.{PlaceDeterminesSector, EachSectorHasAPlace, EachSectorHasOnePlace, ParityIsInFile, ParityStandsApart, ParityByteAt, ParityFillsFile}
+use Rattle.rs01_layers.specs.Placing.{PlaceDeterminesSector, EachSectorHasAPlace, EachSectorHasOnePlace, ParityIsInFile, ParityStandsApart, ParityFillsFile}
 
 -- as many places as `up` layers of k have hold n sectors
 rounded_up : (n k up : ℕ) → 0 < k → up ≡ (n + (k - 1)) / k → n ≤ up * k

@@ -7,8 +7,8 @@ ghost use Rattle.rs01_layers.specs.Layer.{column, layer as blocks_of_layer};
 
 use crate::shape::Shape;
 
-// Bytes into the front of a buffer, and zeros behind them.
-fn copy_padded(bytes: &[u8], into: &mut [u8])
+/// Writes bytes into the front of a buffer, and zeros behind them.
+pub fn copy_padded(bytes: &[u8], into: &mut [u8])
     requires { length bytes.now ≤ length into.old }
     ensures { into.new ≡ padded (length into.old) bytes.now }
 {

@@ -6,7 +6,7 @@ pub mod extent;
 pub mod laws;
 pub mod shape;
 
-pub use blocks::{block_into, column_into};
+pub use blocks::{block_into, column_into, copy_padded};
 pub use extent::Extent;
 pub use shape::{Shape, ShapeRefusal};
 

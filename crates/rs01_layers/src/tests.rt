@@ -1,5 +1,6 @@
 //! Shapes and extents by their numbers.
 use super::*;
+use std::process::Abort;
 use std::test::Fail;
 
 fn shape(sectors: u32, parity: u32) -> Result<Shape, Fail> {
@@ -34,6 +35,7 @@ fn full_disc(rt: HostRuntime) -> Result<(), Fail> {
 #[test]
 fn two_layers(rt: HostRuntime) -> Result<(), Fail> {
     let two = shape(224, 32)?;
+    assert_eq!(rt; two.sectors(), 224);
     assert_eq!(rt; two.layers(), 2);
     assert_eq!(rt; (two.layer_of(1), two.place_of(1)), (1, 0));
     assert_eq!(rt; (two.layer_of(223), two.place_of(223)), (1, 111));
@@ -80,6 +82,16 @@ fn extents(rt: HostRuntime) {
     }
 }
 
+// The columns of a shape over a short image.
+fn column_start(rt: &impl Abort, image: &[u8], two: &Shape, codeword: u32) -> (u8, u8, u8, u8) {
+    let mut bytes = [1u8; 223];
+    assert_eq!(rt; image.len(), 2049);
+    assert_eq!(rt; (two.sectors(), two.data(), two.layers()), (2, 223, 1));
+    assert!(rt; codeword < 2048);
+    column_into(image, two, 0, codeword, &mut bytes);
+    (bytes[0], bytes[1], bytes[2], bytes[222])
+}
+
 #[test]
 fn bytes_of_a_short_image(rt: HostRuntime) -> Result<(), Fail> {
     let mut image = vec![in rt.alloc(); 7u8; 2049]?;
@@ -87,11 +99,8 @@ fn bytes_of_a_short_image(rt: HostRuntime) -> Result<(), Fail> {
     let mut block = [1u8; 2048];
     block_into(image.as_slice(), 1, 1, &mut block);
     assert_eq!(rt; (block[0], block[1], block[2047]), (9, 0, 0));
-    let mut bytes = vec![in rt.alloc(); 1u8; 223]?;
     let two = shape(2, 32)?;
-    column_into(image.as_slice(), &two, 0, 0, bytes.as_mut_slice());
-    assert_eq!(rt; (bytes[0], bytes[1], bytes[2], bytes[222]), (7, 9, 0, 0));
-    column_into(image.as_slice(), &two, 0, 1, bytes.as_mut_slice());
-    assert_eq!(rt; (bytes[0], bytes[1]), (7, 0));
+    assert_eq!(rt; column_start(&rt, image.as_slice(), &two, 0), (7, 9, 0, 0));
+    assert_eq!(rt; column_start(&rt, image.as_slice(), &two, 1), (7, 0, 0, 0));
     Ok(())
 }

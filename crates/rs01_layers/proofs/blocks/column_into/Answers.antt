@@ -1,7 +1,7 @@
 use Rattle.std.proofs.Common.{◌≡◌, ℕ, ◌+◌, ◌-◌, ◌*◌, ◌<◌, List, length, get_or, arith, ap, ◌∙◌, sym}
 use Rattle.std.proofs.lemmas.List.{ext_get_or}
 use Rattle.rs01_layers.specs.Sectors.{sectors_of}
-use Rattle.rs01_layers.specs.Layout.{layers_of, number_at}
+use Rattle.rs01_layers.specs.Layout.{layers_of}
 use Rattle.rs01_layers.specs.Layer.{layer, column}
 use Rattle.rs01_layers.proofs.BlockLemmas.{length-column, length-layer, get_or-column-layer}
 use Rattle.rs01_layers.proofs.blocks.column_into.Goals as goal
