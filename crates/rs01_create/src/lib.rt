@@ -2,5 +2,6 @@
 #![tactic(auto)]
 
 pub mod image;
+pub mod parity;
 mod refusal;
 pub mod write;
