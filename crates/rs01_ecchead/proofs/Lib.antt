@@ -1,2 +1,3 @@
 mod Zeros
 mod Accepted
+mod RoundTrip
