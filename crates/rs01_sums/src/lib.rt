@@ -1,13 +1,16 @@
-// A library with one function.
+//! Checksums of sectors, the markers of missing sectors, and which blocks may stand for a sector.
 #![tactic(auto)]
 
-ghost use Rattle.std.specs.Prelude.{◌≡◌};
-ghost use Rattle.rs01_sums.specs.Echo.{echo_of};
+pub mod checksum;
+pub mod laws;
+pub mod markers;
+pub mod sums;
+pub mod usability;
 
-// The `ensures` clause is the contract: what `echo` returns is `echo_of` of its argument, a definition
-// in `specs/Echo.antt`, which a caller's clause can cite too.
-pub fn echo(x: usize) -> usize
-    ensures { result ≡ echo_of x }
-{
-    x
-}
+pub use checksum::crc32;
+pub use markers::{is_marker, marker};
+pub use sums::Sums;
+pub use usability::usable;
+
+#[cfg(test)]
+mod tests;
