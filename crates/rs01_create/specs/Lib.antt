@@ -1,1 +1,2 @@
+pub mod Create
 pub mod Unfinished

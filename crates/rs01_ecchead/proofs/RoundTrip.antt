@@ -5,7 +5,9 @@ use Rattle.std.specs.Int.{to_le_bytes, from_le_bytes, w32, w64}
 use Rattle.std.proofs.Math.Seq.{take-append_seam, drop-append-add}
 use Rattle.std.proofs.lemmas.Nat.{from_le_bytes-to_le_bytes_4, from_le_bytes-to_le_bytes_8}
 use Rattle.rs01_ecchead.specs.declared.head.HeadRefusal.{HeadRefusal}
-use Rattle.rs01_ecchead.specs.Header.{Fields, zeros, part, number_at, wide_number_at, head_bytes, front_bytes, number_bytes, end_bytes, fields_at, head_of}
+use Rattle.rs01_ecchead.specs.Header.{Fields, zeros, part, number_at, wide_number_at, head_bytes, front_bytes, number_bytes, end_bytes, fields_at, head_of, AreFields, ReadsBack}
+use Rattle.std.specs.Str.{bytes_eq}
+use Rattle.std.proofs.lemmas.Bool.Decides.{nat_tests}
 use Rattle.rs01_ecchead.proofs.Accepted.{accepted}
 use Rattle.rs01_ecchead.proofs.Zeros.{length-zeros}
 
@@ -89,3 +91,52 @@ read fl fp im bs ns ds rs cs vs ms ls l1 l2 l3 l4 l5 l6 l7 l8 l9 l10 l11 =
       mark = s10 0 4 ∙ first ms t11 4 l10;
       last = s10 24 4 ∙ skip ms t11 4 20 4 l10 ∙ skip (zeros 20) t12 20 0 4 (length-zeros 20) ∙ first ls (zeros 3976) 4 l11;
     }
+
+-- a number of 4 bytes, and one of 8
+number_is : (b : List ℕ) (at n : ℕ) → n < 2 ^ 32 → part b at 4 ≡ to_le_bytes w32 n → number_at b at ≡ n
+number_is b at n fits e = ap (from_le_bytes w32) e ∙ from_le_bytes-to_le_bytes_4 n fits
+
+wide_is : (b : List ℕ) (at n : ℕ) → n < 2 ^ 64 → part b at 8 ≡ to_le_bytes w64 n → wide_number_at b at ≡ n
+wide_is b at n fits e = ap (from_le_bytes w64) e ∙ from_le_bytes-to_le_bytes_8 n fits
+
+not_full : (n : ℕ) → 1 ≤ n → (if n == 0 then 2048 else n) ≡ n
+not_full n h = grind (arith, nat_tests)
+
+same_fields : (f : Fields) (b : List ℕ) → AreFields f
+    → Read b (to_le_bytes w32 f.flags) f.fingerprint f.image_sum f.body_sum (to_le_bytes w64 f.sectors) (to_le_bytes w32 (255 - f.parity)) (to_le_bytes w32 f.parity)
+    (to_le_bytes w32 f.creator) (to_le_bytes w32 f.needed) (to_le_bytes w32 f.mark_sector) (to_le_bytes w32 f.last_bytes)
+    → fields_at b ≡ f
+unfolding fields_at
+same_fields f b v r =
+    let last : number_at b 116 ≡ f.last_bytes = number_is b 116 f.last_bytes (omega arith) r.last in
+    λ i. record {
+      flags = number_is b 16 f.flags v.flags r.flags i;
+      fingerprint = r.fingerprint i;
+      image_sum = r.image i;
+      body_sum = r.body i;
+      sectors = wide_is b 68 f.sectors (omega arith) r.sectors i;
+      parity = number_is b 80 f.parity (omega arith) r.parity i;
+      creator = number_is b 84 f.creator v.creator r.creator i;
+      needed = number_is b 88 f.needed (omega arith) r.needed i;
+      mark_sector = number_is b 92 f.mark_sector v.mark_sector r.mark i;
+      last_bytes = (ap (λ (n : ℕ). if n == 0 then 2048 else n) last ∙ not_full f.last_bytes v.some_last) i;
+    }
+
+pub reads_back : ReadsBack
+unfolding head_of
+reads_back f v =
+    let b = of_fields f in
+    let r = read (to_le_bytes w32 f.flags) f.fingerprint f.image_sum f.body_sum (to_le_bytes w64 f.sectors) (to_le_bytes w32 (255 - f.parity)) (to_le_bytes w32 f.parity)
+    (to_le_bytes w32 f.creator) (to_le_bytes w32 f.needed) (to_le_bytes w32 f.mark_sector) (to_le_bytes w32 f.last_bytes)
+    refl v.fingerprint v.image_sum v.body_sum refl refl refl refl refl refl refl in
+    let needed : number_at b 88 ≡ f.needed = number_is b 88 f.needed (omega arith) r.needed in
+    let sectors : wide_number_at b 68 ≡ f.sectors = wide_is b 68 f.sectors (omega arith) r.sectors in
+    let data_bytes : number_at b 76 ≡ 255 - f.parity = number_is b 76 (255 - f.parity) (omega arith) r.data_bytes in
+    let parity : number_at b 80 ≡ f.parity = number_is b 80 f.parity (omega arith) r.parity in
+    let last : number_at b 116 ≡ f.last_bytes = number_is b 116 f.last_bytes (omega arith) r.last in
+    ap head_of (are_pieces f)
+    ∙ accepted (bytes_eq (part b 0 12) (codes "*dvdisaster*")) (bytes_eq (part b 12 4) (codes "RS01")) _ _ _ _ _ _
+    (ap (λ xs. bytes_eq xs (codes "*dvdisaster*")) r.cookie) (ap (λ xs. bytes_eq xs (codes "RS01")) r.method)
+    (rw needed v.needed) (rw sectors v.some_sectors) (rw sectors v.few_sectors) (rw parity v.least_parity) (rw parity v.most_parity)
+    ((λ i. data_bytes i + parity i) ∙ omega arith) (rw last v.last_fits)
+    ∙ ap Ok (same_fields f b v r)

@@ -1,5 +1,5 @@
 -- The header of an error correction file: 4096 bytes in which numbers stand with their lowest byte first.
-use Rattle.std.specs.Prelude.{ℕ, ◌≡◌, length, ◌+◌, ◌-◌, ◌==◌, List, ◌++◌, take, drop, replicate, codes, Bool, not, ◌||◌, nat_lt, if◌then◌else◌, Result, Ok, Err}
+use Rattle.std.specs.Prelude.{ℕ, ◌≡◌, ◌<◌, ◌≤◌, ◌^◌, length, ◌+◌, ◌-◌, ◌==◌, List, ◌++◌, take, drop, replicate, codes, Bool, not, ◌||◌, nat_lt, if◌then◌else◌, Result, Ok, Err}
 use Rattle.std.specs.Int.{to_le_bytes, from_le_bytes, w32, w64}
 use Rattle.std.specs.Str.{bytes_eq}
 use Rattle.rs01_ecchead.specs.declared.head.HeadRefusal.{HeadRefusal}
@@ -17,6 +17,22 @@ pub record Fields : Type 0 where
   pub needed : ℕ
   pub mark_sector : ℕ
   pub last_bytes : ℕ
+
+-- fields that a header can hold: digests of 16 bytes, numbers of 32 bits, and the ranges that a reader asks for
+pub record AreFields (f : Fields) : Type 0 where
+  pub flags : f.flags < 2 ^ 32
+  pub fingerprint : length f.fingerprint ≡ 16
+  pub image_sum : length f.image_sum ≡ 16
+  pub body_sum : length f.body_sum ≡ 16
+  pub some_sectors : 1 ≤ f.sectors
+  pub few_sectors : f.sectors ≤ 16777215
+  pub least_parity : 8 ≤ f.parity
+  pub most_parity : f.parity ≤ 100
+  pub creator : f.creator < 2 ^ 32
+  pub needed : f.needed ≤ 1
+  pub mark_sector : f.mark_sector < 2 ^ 32
+  pub some_last : 1 ≤ f.last_bytes
+  pub last_fits : f.last_bytes ≤ 2048
 
 unfoldable pub zeros : ℕ → List ℕ
 zeros n = replicate n 0
@@ -86,3 +102,7 @@ unfoldable pub head_of : List ℕ → Result Fields HeadRefusal
 head_of bytes =
     judged (bytes_eq (part bytes 0 12) (codes "*dvdisaster*")) (bytes_eq (part bytes 12 4) (codes "RS01"))
     (number_at bytes 88) (wide_number_at bytes 68) (number_at bytes 76) (number_at bytes 80) (number_at bytes 116) (fields_at bytes)
+
+-- fields are read as they were written
+abbrev pub ReadsBack : Type 0
+ReadsBack = (f : Fields) → AreFields f → head_of (head_bytes f) ≡ Ok f

@@ -4,6 +4,7 @@
 mod head;
 mod head_read;
 mod head_write;
+pub mod laws;
 
 pub use head::{Head, HeadRefusal};
 pub use head_read::read_head;

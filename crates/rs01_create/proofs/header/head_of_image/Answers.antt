@@ -1,0 +1,25 @@
+use Rattle.std.proofs.Common.{◌≡◌, ◌∙◌, ap, sym, length, ℕ, ◌-◌, arith, List, min}
+use Rattle.md5.specs.Md5.{md5}
+use Rattle.rs01_layers.specs.Sectors.{sectors_of, sector}
+use Rattle.rs01_ecchead.specs.EccFile.{body, head_fields, mark_sector_of}
+use Rattle.rs01_ecchead.specs.Head.{fields_of}
+use Rattle.rs01_create.proofs.Sectors.{is_sector}
+use Rattle.rs01_create.proofs.header.head_of_image.Goals as goal
+
+pub returns : goal.returns
+unfolding head_fields
+returns c =
+    let image = c.args.image.now in
+    let mark : c.min-mark_sector.result ≡ mark_sector_of image = c.min-mark_sector.ensures ∙ (let e : min (c.args.extent.now.sectors - 1) 16 ≡ min 16 (c.args.extent.now.sectors - 1) = omega arith in e) ∙ ap (λ n. min 16 (n - 1)) c.requires.sectors in
+    λ i. record {
+      flags = 0;
+      fingerprint = (c.digest.ensures ∙ ap md5 (is_sector image _ _ _ c.min-mark_sector.result _ c.requires.sectors c.requires.last c.length.ensures.value c.block_into.ensures ∙ ap (sector image) mark)) i;
+      image_sum = c.digest-2.ensures i;
+      body_sum = (c.digest-3.ensures ∙ ap md5 c.requires.body) i;
+      sectors = c.requires.sectors i;
+      parity = c.parity.ensures i;
+      creator = 1;
+      needed = 1;
+      mark_sector = mark i;
+      last_bytes = c.requires.last i;
+    }
