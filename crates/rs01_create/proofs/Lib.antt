@@ -1,3 +1,4 @@
 mod Pieces
+mod Refusals
 mod Sectors
 mod Writes

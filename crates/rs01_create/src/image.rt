@@ -1,33 +1,16 @@
-//! Reading an image whole.
-ghost use Rattle.std.specs.Prelude.{◌≡◌, ◌≢◌, ◌≤◌, ◌⊎◌, Err, IfErr, IfOk, IsTrue, Some, length};
-ghost use Rattle.rs01_outside.specs.Causes.{Rose};
+//! An image that is held whole.
+ghost use Rattle.std.specs.Prelude.{◌≡◌, length};
+ghost use Rattle.rs01_layers.specs.Sectors.{sectors_of, last_of};
 
-use crate::refusal::CreateRefusal;
-use rs01_outside::{Desk, Failed};
-use std::alloc::Global;
+use rs01_layers::{Extent, Shape};
 
-// Reads a file of this size whole. Where the desk has fewer bytes than it told, zeros stand for the rest.
-pub fn read_whole<D: Desk>(
-    alloc: Global,
-    desk: &mut D,
-    name: &str,
-    size: usize,
-) -> Result<Vec<u8>, CreateRefusal>
-    ensures tells { D.tells desk.new ≡ D.tells desk.old }
-    ensures unchanged { IsTrue (D.tells desk.old) → D.files desk.new ≡ D.files desk.old }
-    ensures len { IfOk result (λ bytes. length bytes.items ≡ size) }
-    ensures fault { result ≡ Err CreateRefusal.ReadFault → Rose (D.read_faults desk.old) (D.read_faults desk.new) }
-    ensures reads { result ≢ Err CreateRefusal.ReadFault → D.read_faults desk.new ≡ D.read_faults desk.old }
-    ensures later { D.read_faults desk.old ≤ D.read_faults desk.new }
-    ensures writes { D.write_faults desk.new ≡ D.write_faults desk.old }
-    ensures causes { IfErr result (λ why. (why ≡ CreateRefusal.ReadFault) ⊎ (why ≡ CreateRefusal.OutOfMemory)) }
-    ensures bytes { IsTrue (D.tells desk.old) → (file : _) → D.files desk.old name.now ≡ Some file → size ≡ length file → IfOk result (λ bytes. bytes.items ≡ file) }
-{
-    let Ok(mut bytes) = vec![in alloc; 0u8; size] else {
-        return Err(CreateRefusal::OutOfMemory);
-    };
-    match desk.read_at(name, 0, &mut bytes) {
-        Ok(_) => Ok(bytes),
-        Err(Failed) => Err(CreateRefusal::ReadFault),
-    }
+/// The bytes of an image, how far they go, and the shape of its error correction file.
+#[derive(Drop)]
+pub struct Image {
+    pub bytes: Vec<u8>,
+    pub extent: Extent,
+    pub shape: Shape,
+    ghost counted: { extent.sectors ≡ sectors_of (length bytes.items) },
+    ghost last_counted: { extent.last_bytes ≡ last_of (length bytes.items) },
+    ghost shaped: { shape.sectors ≡ sectors_of (length bytes.items) },
 }
