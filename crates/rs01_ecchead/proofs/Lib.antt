@@ -1,3 +1,6 @@
 mod Zeros
 mod Accepted
+mod Parts
 mod RoundTrip
+pub mod Ranges
+mod RecordedSums

@@ -15,7 +15,7 @@ fn has_text(from: &[u8], at: usize, text: &[u8]) -> bool
 }
 
 // The number in the 4 bytes from a place on.
-fn number(from: &[u8], at: usize) -> u32
+pub fn number(from: &[u8], at: usize) -> u32
     requires { at + 4 ≤ length from.now }
     ensures { result ≡ number_at from.now at }
 {

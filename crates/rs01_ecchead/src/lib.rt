@@ -5,6 +5,8 @@ mod head;
 mod head_read;
 mod head_write;
 pub mod laws;
+pub mod pieces;
+pub mod recorded;
 
 pub use head::{Head, HeadRefusal};
 pub use head_read::read_head;

@@ -1,0 +1,28 @@
+-- Parts of a file that stand behind each other.
+use Rattle.std.proofs.Common.{◌≡◌, ℕ, ◌+◌, ◌-◌, ◌≤◌, List, ◌++◌, length, take, drop, sym, ap, ◌∙◌, arith, append_assoc}
+use Rattle.std.proofs.Math.Seq.{take-add}
+use Rattle.std.proofs.lemmas.List.{drop-drop}
+use Rattle.rs01_outside.specs.Files.{Files, bytes_of}
+use Rattle.rs01_ecchead.specs.Header.{part}
+
+-- m bytes and then n more
+pub part-add : (file : List ℕ) (from m n : ℕ) → part file from (m + n) ≡ part file from m ++ part file (from + m) n
+part-add file from m n = take-add m n (drop from file) ∙ ap (λ xs. take m (drop from file) ++ take n xs) (drop-drop m from file)
+
+-- one more piece behind what was read
+pub one_more_part : (file before piece : List ℕ) (from at count : ℕ) → from ≤ at → piece ≡ part file at count
+    → (before ++ part file from (at - from)) ++ piece ≡ before ++ part file from (at + count - from)
+one_more_part file before piece from at count order e =
+    let place : from + (at - from) ≡ at = omega arith in
+    let total : at - from + count ≡ at + count - from = omega arith in
+    append_assoc before (part file from (at - from)) piece
+    ∙ ap (λ xs. before ++ (part file from (at - from) ++ xs)) (e ∙ ap (λ k. part file k count) (sym place))
+    ∙ ap (λ xs. before ++ xs) (sym (part-add file from (at - from) count) ∙ ap (part file from) total)
+
+-- what was read of a file, by what the desk had at an earlier time
+pub piece_is : (f0 f1 : Files) (name into : List ℕ) (at len count : ℕ) → f1 ≡ f0 → len ≡ count
+    → (at + len ≤ length (bytes_of f1 name) → into ≡ part (bytes_of f1 name) at len) → at + count ≤ length (bytes_of f0 name)
+    → into ≡ part (bytes_of f0 name) at count
+piece_is f0 f1 name into at len count e l read fits =
+    let same : length (bytes_of f1 name) ≡ length (bytes_of f0 name) = ap (λ (f : Files). length (bytes_of f name)) e in
+    read (omega (arith, same, l)) ∙ (λ i. part (bytes_of (e i) name) at (l i))

@@ -1,0 +1,17 @@
+-- What a file records behind its header.
+use Rattle.std.specs.Prelude.{ℕ, ◌+◌, ◌*◌, List, map}
+use Rattle.std.specs.List.{range_with_len}
+use Rattle.rs01_layers.specs.Layout.{parity_offset}
+use Rattle.rs01_ecchead.specs.Header.{number_at, part}
+
+-- the recorded checksum of a sector
+abbrev pub sum_in : List ℕ → ℕ → ℕ
+sum_in file s = number_at file (4096 + 4 * s)
+
+-- the recorded checksums of the first n sectors
+unfoldable pub sums_in : List ℕ → ℕ → List ℕ
+sums_in file n = map (sum_in file) (range_with_len 0 n)
+
+-- the recorded parity of codeword b of layer l, in a file of n sectors with r parity bytes a codeword
+abbrev pub parity_in : List ℕ → ℕ → ℕ → ℕ → ℕ → List ℕ
+parity_in file n r l b = part file (parity_offset n r l b) r
