@@ -1,5 +1,6 @@
 -- The Reed-Solomon code over the field: its roots, its generator polynomial, its codewords and the systematic
 -- encoding. A codeword has 255 bytes, k = 255 - r of data and then r of parity, the coefficient of x^254 first.
+-- With r = 32 the generator polynomial is that of the (255, 223) code of CCSDS 131.0-B.
 use Rattle.std.specs.Prelude.{◌≡◌, ℕ, zero, suc, ◌+◌, ◌-◌, ◌*◌, ◌^◌, ◌<◌, List, [], ◌∷◌, ◌++◌, All, Contains, length, replicate, slice_index}
 use Rattle.rs01_gf256.specs.Field.{power}
 use Rattle.rs01_poly.specs.Polynomial.{value_at, times_linear, remainder}
