@@ -1,5 +1,6 @@
 -- The field of 256 elements, the residues of polynomials over bits modulo x^8 + x^7 + x^2 + x + 1.
--- A byte is a polynomial over bits: bit i is the coefficient of x^i. The sum is exclusive or, bit_xor.
+-- A byte is a polynomial over bits: bit i is the coefficient of x^i. The sum is exclusive or, bit_xor. It is the
+-- field of the Reed-Solomon code of CCSDS 131.0-B.
 use Rattle.std.specs.Prelude.{ℕ, zero, suc, ◌+◌, ◌*◌, ◌/◌, ◌%◌, ◌^◌, bit_xor}
 
 -- the product, without carries, of two polynomials over bits, of which the second has n bits

@@ -8,6 +8,9 @@ ghost use Rattle.std.specs.Prelude.{◌≡◌, ◌+◌, ◌-◌, ◌<◌, ◌≤
 ghost use Rattle.rs01_poly.specs.Code.{generator};
 ghost use Rattle.rs01_poly.specs.Polynomial.{times_linear, value_at};
 
+pub mod laws_of_code;
+pub mod laws_of_polynomials;
+
 use rs01_gf256::{Gf, pow_root};
 
 /// The value at `x` of the polynomial whose coefficients these are, the highest first.
