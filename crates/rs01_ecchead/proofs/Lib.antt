@@ -1,0 +1,3 @@
+mod Zeros
+mod Accepted
+mod RoundTrip

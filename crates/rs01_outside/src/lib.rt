@@ -1,0 +1,22 @@
+//! What lies outside the codec: named files, drives, a place for output, and a gate for workers.
+//!
+//! Each is a trait with a written meaning and a count of faults. An implementation says whether it
+//! tells its meaning (`tells`), and clauses on content hold where it does. Clauses on faults hold
+//! always: a call answers `Failed` only where a count rose in that call, or stands at the last value
+//! of its `u64`, a call that succeeds raises no count, and no count ever falls.
+#![tactic(auto)]
+
+mod desks;
+mod drives;
+mod gates;
+mod sinks;
+
+pub use desks::Desk;
+pub use drives::Drive;
+pub use gates::{Gate, OpenGate};
+pub use sinks::Sink;
+
+/// A call on something outside that failed. The count of faults of what was called has risen, or
+/// stands at the last value of its `u64`.
+#[derive(Clone, Copy, PartialEq, Eq, Debug)]
+pub struct Failed;
