@@ -1,6 +1,6 @@
 -- Runs, found from the left.
-use Rattle.std.proofs.Common.{◌≡◌, ℕ, ◌+◌, ◌<◌, ◌≢◌, Bool, true, false, cond, eqb, List, [], ◌∷◌, ◌++◌, map, length, get_or, drop, ◌≤◌, refl, sym, ap, ◌∙◌, ⊎_elim, arith, append_assoc}
-use Rattle.std.proofs.lemmas.Bool.{cases_eq, eq-eqb, ne_eqb, cond-true, cond-false}
+use Rattle.std.proofs.Common.{◌≡◌, ℕ, ◌+◌, ◌<◌, true, false, cond, eqb, List, [], ◌∷◌, ◌++◌, map, length, get_or, drop, ◌≤◌, refl, sym, ap, ◌∙◌, append_assoc}
+use Rattle.std.proofs.lemmas.Bool.{eq-eqb, ne_eqb, cond-true, cond-false}
 use Rattle.std.proofs.lemmas.List.{at_drop_more, at_drop_all}
 use Rattle.std.specs.List.{join_with_byte}
 use Rattle.rs01_report.specs.Runs.{Run, before_runs, runs, run_text, ranges_text}
@@ -17,8 +17,8 @@ unfolding runs_from
 before s first last [] = refl
 before s first last (next ∷ later) =
     elim (eqb next (last + 1)) as (λ b.
-        before_runs s (cond b (runs_from first next later) ((first, last) ∷ runs_from next next later))
-        ≡ cond (eqb first (s + 1)) (cond b (runs_from s next later) ((s, last) ∷ runs_from next next later)) ((s, s) ∷ cond b (runs_from first next later) ((first, last) ∷ runs_from next next later)))
+    before_runs s (cond b (runs_from first next later) ((first, last) ∷ runs_from next next later))
+    ≡ cond (eqb first (s + 1)) (cond b (runs_from s next later) ((s, last) ∷ runs_from next next later)) ((s, s) ∷ cond b (runs_from first next later) ((first, last) ∷ runs_from next next later)))
     [ true ↦ before s first next later | false ↦ refl ]
 
 pub runs_is : (s : ℕ) (later : List ℕ) → runs (s ∷ later) ≡ runs_from s s later
@@ -51,8 +51,8 @@ unfolding runs_from
 join_before run first last [] = refl
 join_before run first last (s ∷ later) =
     elim (eqb s (last + 1)) as (λ b.
-        join_with_byte 44 (map run_text (run ∷ cond b (runs_from first s later) ((first, last) ∷ runs_from s s later)))
-        ≡ run_text run ++ (44 ∷ join_with_byte 44 (map run_text (cond b (runs_from first s later) ((first, last) ∷ runs_from s s later)))))
+    join_with_byte 44 (map run_text (run ∷ cond b (runs_from first s later) ((first, last) ∷ runs_from s s later)))
+    ≡ run_text run ++ (44 ∷ join_with_byte 44 (map run_text (cond b (runs_from first s later) ((first, last) ∷ runs_from s s later)))))
     [ true ↦ join_before run first s later | false ↦ refl ]
 
 -- the next number begins a run

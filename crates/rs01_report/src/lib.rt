@@ -10,3 +10,6 @@ pub use faults::Fault;
 pub use lists::SectorList;
 pub use puts::{PutRefusal, put_create, put_fault};
 pub use reports::CreateReport;
+
+#[cfg(test)]
+mod tests;

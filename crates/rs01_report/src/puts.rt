@@ -1,6 +1,6 @@
 //! Putting reports and fault lines.
 
-ghost use Rattle.std.specs.Prelude.{◌≡◌, ◌++◌, IfOk, IsTrue, OnOk, string_bytes};
+ghost use Rattle.std.specs.Prelude.{◌≡◌, ◌++◌, IfErr, IfOk, IsTrue, OnOk, string_bytes};
 ghost use Rattle.rs01_outside.specs.Taken.{Takes};
 ghost use Rattle.rs01_report.specs.Causes.{HasPutCause};
 ghost use Rattle.rs01_report.specs.Faults.{fault_line};
@@ -123,6 +123,20 @@ fn body_text(alloc: Global, have: [u8; 16], want: [u8; 16]) -> Result<String, Al
     format!(in alloc; "rs01: body md5 {have}, recorded {want}\n")
 }
 
+// Puts a text.
+fn put_text<S: Sink>(text: &str, out: &mut S) -> Result<(), PutRefusal>
+    ensures tells { S.tells out.new ≡ S.tells out.old }
+    ensures taken { IsTrue (S.tells out.old)
+        → Takes (S.taken out.old) (S.taken out.new) text.now result }
+    ensures refusal { IfErr result (λ refusal. refusal ≡ PutRefusal.SinkFault) }
+    ensures cause { HasPutCause (S.faults out.old) (S.faults out.new) result }
+{
+    match out.put(text.as_bytes()) {
+        Ok(()) => Ok(()),
+        Err(Failed) => Err(PutRefusal::SinkFault),
+    }
+}
+
 /// Puts the report of `create`, of the error correction file under `name`.
 ///
 /// After `SinkFault` a prefix of it was put.
@@ -140,10 +154,8 @@ pub fn put_create<S: Sink>(
     ensures cause { HasPutCause (S.faults out.old) (S.faults out.new) result }
 {
     let text = create_text(alloc, report, name)?;
-    match out.put(text.as_bytes()) {
-        Ok(()) => Ok(()),
-        Err(Failed) => Err(PutRefusal::SinkFault),
-    }
+    put_text(text.as_str(), out)?;
+    Ok(())
 }
 
 /// Puts the line of a fault.
@@ -158,8 +170,6 @@ pub fn put_fault<S: Sink>(alloc: Global, fault: &Fault, out: &mut S) -> Result<(
     ensures cause { HasPutCause (S.faults out.old) (S.faults out.new) result }
 {
     let text = fault_text(alloc, fault)?;
-    match out.put(text.as_bytes()) {
-        Ok(()) => Ok(()),
-        Err(Failed) => Err(PutRefusal::SinkFault),
-    }
+    put_text(text.as_str(), out)?;
+    Ok(())
 }
