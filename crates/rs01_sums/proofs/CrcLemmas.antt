@@ -1,5 +1,5 @@
 -- Checksums have 32 bits.
-use Rattle.std.proofs.Common.{ℕ, ◌^◌, ◌<◌, ◌≤◌, List, arith}
+use Rattle.std.proofs.Common.{ℕ, ◌^◌, ◌<◌, List, arith}
 use Rattle.rs01_sums.specs.Crc.{crc}
 
 pub crc-lt : (bytes : List ℕ) → crc bytes < 2 ^ 32

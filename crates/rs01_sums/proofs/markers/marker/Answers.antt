@@ -1,4 +1,3 @@
-use Rattle.std.proofs.Common.{rules}
 use Rattle.rs01_sums.specs.Marker.{marker}
 use Rattle.rs01_sums.proofs.markers.marker.Goals as goal
 

@@ -1,0 +1,68 @@
+//! The faults that end a run.
+
+/// Why a run ended without its work, with the values that its line shows.
+///
+/// A `usize` is the place of a word, counted from 0, or the number of a drive.
+#[derive(Clone, Copy, PartialEq, Eq, Debug)]
+pub enum Fault {
+    /// There are no words.
+    NoCommand,
+    /// The first word is no command.
+    UnknownCommand,
+    /// An option or a word that the command doesn't take.
+    UnknownOption(usize),
+    /// An option that was given before.
+    Repeated(usize),
+    /// An option without its value.
+    NoValue(usize),
+    /// A value that should be a number.
+    BadNumber(usize),
+    /// A number outside its range.
+    OutOfRange(usize),
+    /// A word that the command needs isn't there.
+    Missing(usize),
+    /// A name that equals an earlier one.
+    SameName(usize),
+    /// The image isn't there.
+    NoImage,
+    /// The error correction file isn't there.
+    NoEcc,
+    /// The image has no bytes.
+    EmptyImage,
+    /// The image has so many sectors.
+    TooManySectors(u64),
+    /// This sector of the image is its own marker.
+    Marker(u32),
+    /// The header's cookie.
+    Cookie,
+    /// The header's method.
+    Method,
+    /// The header's needed version.
+    Version,
+    /// The header's number of sectors.
+    Sectors,
+    /// The header's numbers of data and parity bytes.
+    Parity,
+    /// The header's number of bytes of the last sector.
+    LastBytes,
+    /// The length of the error correction file, and the one that is expected.
+    Size(u64, u64),
+    /// The digest of the bytes after the header, and the recorded one.
+    Body([u8; 16], [u8; 16]),
+    /// A file couldn't be read.
+    ReadFault,
+    /// A file couldn't be written.
+    WriteFault,
+    /// There is no drive.
+    NoDrive,
+    /// This drive doesn't tell its size.
+    Failed(usize),
+    /// The sectors of the first drive, and of the first drive that differs.
+    Differ(u32, u32),
+    /// The medium has so many sectors.
+    DriveSize(u32),
+    /// There is no memory.
+    OutOfMemory,
+    /// The command isn't built yet.
+    NotBuilt,
+}

@@ -1,0 +1,158 @@
+//! Reports and fault lines, whole.
+use super::*;
+use crate::lists::push_list;
+use rs01_outside::{Failed, Sink};
+use std::alloc::Global;
+use std::process::Abort;
+use std::test::Fail;
+
+// A sink that keeps its bytes, or fails.
+#[derive(Drop)]
+struct Page {
+    bytes: Vec<u8>,
+    closed: bool,
+    faults: u64,
+}
+
+impl Sink for Page {
+    ghost use Rattle.std.specs.Prelude.{false, []};
+
+    ghost tells = { λ _. false };
+
+    ghost taken = { λ _. [] };
+
+    ghost faults = { λ page. page.faults };
+
+    fn put(&mut self, bytes: &[u8]) -> Result<(), Failed> {
+        if !self.closed && self.bytes.extend_from_slice(bytes).is_ok() {
+            return Ok(());
+        }
+        self.faults = self.faults.saturating_add(1);
+        Err(Failed)
+    }
+
+    fn faults(&self) -> u64 {
+        self.faults
+    }
+}
+
+const REPORT: CreateReport = CreateReport {
+    sectors: 1,
+    layers: 1,
+    parity: 32,
+    last_bytes: 3,
+    image_sum: [
+        0x90, 0x01, 0x50, 0x98, 0x3c, 0xd2, 0x4f, 0xb0, 0xd6, 0x96, 0x3f, 0x7d, 0x28, 0xe1, 0x7f,
+        0x72,
+    ],
+};
+
+fn empty_page(alloc: Global, closed: bool) -> Page {
+    Page {
+        bytes: Vec::new(alloc),
+        closed,
+        faults: 0,
+    }
+}
+
+#[test]
+fn created(rt: HostRuntime) {
+    let mut out = empty_page(rt.alloc(), false);
+    assert!(rt; put_create(rt.alloc(), &REPORT, "disc.ecc", &mut out).is_ok());
+    let want =
+        b"created disc.ecc\nsectors 1, layers 1, parity 32\nlast sector 3 bytes\nimage md5 900150983cd24fb0d6963f7d28e17f72\n";
+    assert_eq!(rt; out.bytes.as_slice(), want.as_slice());
+}
+
+#[test]
+fn closed_sink(rt: HostRuntime) {
+    let mut out = empty_page(rt.alloc(), true);
+    assert_eq!(rt;
+        put_create(rt.alloc(), &REPORT, "disc.ecc", &mut out),
+        Err(PutRefusal::SinkFault)
+    );
+    assert_eq!(rt;
+        put_fault(rt.alloc(), &Fault::NoImage, &mut out),
+        Err(PutRefusal::SinkFault)
+    );
+    assert_eq!(rt; out.faults, 2);
+}
+
+fn assert_line(rt: &impl Abort, alloc: Global, fault: &Fault, line: &str) {
+    let mut out = empty_page(alloc, false);
+    assert!(rt; put_fault(alloc, fault, &mut out).is_ok());
+    assert!(rt; out.bytes.as_slice() == line.as_bytes(), "{line}");
+}
+
+#[test]
+fn fault_lines(rt: HostRuntime) {
+    let have = REPORT.image_sum;
+    let want = [0x0f; 16];
+    for (fault, line) in [
+        (Fault::NoCommand, "rs01: word 0: no command\n"),
+        (Fault::UnknownCommand, "rs01: word 0: unknown command\n"),
+        (Fault::UnknownOption(3), "rs01: word 3: not known here\n"),
+        (Fault::Repeated(5), "rs01: word 5: given twice\n"),
+        (Fault::NoValue(3), "rs01: word 3: needs a value\n"),
+        (Fault::BadNumber(4), "rs01: word 4: not a number\n"),
+        (Fault::OutOfRange(4), "rs01: word 4: out of range\n"),
+        (Fault::Missing(2), "rs01: word 2: something is missing\n"),
+        (Fault::SameName(2), "rs01: word 2: the same name twice\n"),
+        (Fault::NoImage, "rs01: no image\n"),
+        (Fault::NoEcc, "rs01: no error correction file\n"),
+        (Fault::EmptyImage, "rs01: the image is empty\n"),
+        (
+            Fault::TooManySectors(16_777_216),
+            "rs01: the image has 16777216 sectors, at most 16777215 are possible\n",
+        ),
+        (Fault::Marker(7), "rs01: sector 7 is marked as missing\n"),
+        (Fault::Cookie, "rs01: header: cookie\n"),
+        (Fault::Method, "rs01: header: method\n"),
+        (Fault::Version, "rs01: header: version\n"),
+        (Fault::Sectors, "rs01: header: sectors\n"),
+        (Fault::Parity, "rs01: header: parity\n"),
+        (Fault::LastBytes, "rs01: header: last bytes\n"),
+        (
+            Fault::Size(69_635, 69_636),
+            "rs01: the file has 69635 bytes, 69636 are expected\n",
+        ),
+        (
+            Fault::Body(have, want),
+            "rs01: body md5 900150983cd24fb0d6963f7d28e17f72, recorded 0f0f0f0f0f0f0f0f0f0f0f0f0f0f0f0f\n",
+        ),
+        (Fault::ReadFault, "rs01: reading a file failed\n"),
+        (Fault::WriteFault, "rs01: writing a file failed\n"),
+        (Fault::NoDrive, "rs01: no drive\n"),
+        (Fault::Failed(0), "rs01: drive 0: size failed\n"),
+        (
+            Fault::Differ(10, 11),
+            "rs01: drives differ: 10 and 11 sectors\n",
+        ),
+        (Fault::DriveSize(0), "rs01: the medium has 0 sectors\n"),
+        (Fault::OutOfMemory, "rs01: memory ran out\n"),
+        (Fault::NotBuilt, "rs01: not built yet\n"),
+    ] {
+        assert_line(&rt, rt.alloc(), &fault, line);
+    }
+}
+
+#[test]
+fn lists(rt: HostRuntime) -> Result<(), Fail> {
+    for (sectors, want) in [
+        ([].as_slice(), "0: none"),
+        ([5u32].as_slice(), "1: 5"),
+        ([3u32, 4, 5, 6, 9].as_slice(), "5: 3-6,9"),
+        ([1u32, 3, 5, 6].as_slice(), "4: 1,3,5-6"),
+        ([0u32, 1, 2, 4_294_967_295].as_slice(), "4: 0-2,4294967295"),
+    ] {
+        let list = SectorList::of(sectors.to_vec(rt.alloc())?);
+        let mut text = String::new(rt.alloc());
+        push_list(&mut text, list.items())?;
+        assert_eq!(rt; text.as_str(), want);
+        assert_eq!(rt; list.len(), sectors.len());
+    }
+    let list = SectorList::of([3u32, 9].to_vec(rt.alloc())?);
+    assert_eq!(rt; list.len(), 2);
+    assert_eq!(rt; *list.get(1), 9);
+    Ok(())
+}
