@@ -24,7 +24,11 @@ pub struct FileDesk<R: Files + AllocGlobal + Drop> {
 
 impl<R: Files + AllocGlobal + Drop> FileDesk<R> {
     /// The files that this runtime value reaches. It takes no memory.
-    pub fn new(files: R) -> FileDesk<R> {
+    pub fn new(files: R) -> FileDesk<R>
+        ensures tells { ⟦<FileDesk<R> as Desk>⟧.tells result ≡ false }
+        ensures read_faults { ⟦<FileDesk<R> as Desk>⟧.read_faults result ≡ 0 }
+        ensures write_faults { ⟦<FileDesk<R> as Desk>⟧.write_faults result ≡ 0 }
+    {
         FileDesk {
             system: System::new(files),
             reads: FaultCount::new(),
@@ -43,28 +47,23 @@ impl<R: Files + AllocGlobal + Drop> Desk for FileDesk<R> {
     ghost write_faults = { λ desk. desk.writes.count };
 
     fn size(&mut self, name: &str) -> Result<Option<u64>, Failed> {
-        let outcome = self.system.size(name);
-        self.reads.settle(outcome)
+        self.reads.settle(self.system.size(name))
     }
 
     fn read_at(&mut self, name: &str, at: u64, into: &mut [u8]) -> Result<usize, Failed> {
-        let outcome = self.system.read_at(name, at, into);
-        self.reads.settle(outcome)
+        self.reads.settle(self.system.read_at(name, at, into))
     }
 
     fn write_at(&mut self, name: &str, at: u64, bytes: &[u8]) -> Result<(), Failed> {
-        let outcome = self.system.write_at(name, at, bytes);
-        self.writes.settle(outcome)
+        self.writes.settle(self.system.write_at(name, at, bytes))
     }
 
     fn make(&mut self, name: &str) -> Result<(), Failed> {
-        let outcome = self.system.make(name);
-        self.writes.settle(outcome)
+        self.writes.settle(self.system.make(name))
     }
 
     fn cut(&mut self, name: &str, len: u64) -> Result<(), Failed> {
-        let outcome = self.system.cut(name, len);
-        self.writes.settle(outcome)
+        self.writes.settle(self.system.cut(name, len))
     }
 
     fn read_faults(&self) -> u64 {

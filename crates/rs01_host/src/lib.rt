@@ -6,9 +6,10 @@
 
 mod fault_count;
 mod file_desk;
+mod reading;
 mod standard_sink;
 mod system;
-mod transfer;
+mod writing;
 
 pub use file_desk::FileDesk;
 pub use standard_sink::StdSink;

@@ -1,8 +1,8 @@
 //! Standard output as a sink.
-ghost use Rattle.std.specs.Prelude.{[], false};
+ghost use Rattle.std.specs.Prelude.{◌≡◌, [], false};
 
 use crate::fault_count::FaultCount;
-use crate::transfer::put_all;
+use crate::writing::put_all;
 use rs01_outside::{Failed, Sink};
 use std::io;
 
@@ -15,7 +15,10 @@ pub struct StdSink<R: Print + Drop> {
 
 impl<R: Print + Drop> StdSink<R> {
     /// The output that this runtime value reaches. It takes no memory.
-    pub fn new(print: R) -> StdSink<R> {
+    pub fn new(print: R) -> StdSink<R>
+        ensures tells { ⟦<StdSink<R> as Sink>⟧.tells result ≡ false }
+        ensures faults { ⟦<StdSink<R> as Sink>⟧.faults result ≡ 0 }
+    {
         StdSink {
             print,
             faults: FaultCount::new(),
@@ -31,8 +34,8 @@ impl<R: Print + Drop> Sink for StdSink<R> {
     ghost faults = { λ sink. sink.faults.count };
 
     fn put(&mut self, bytes: &[u8]) -> Result<(), Failed> {
-        let outcome = put_all(&mut io::writer(&self.print), bytes);
-        self.faults.settle(outcome)
+        self.faults
+            .settle(put_all(&mut io::writer(&self.print), bytes))
     }
 
     fn faults(&self) -> u64 {

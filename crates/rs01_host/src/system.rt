@@ -2,7 +2,8 @@
 ghost use Rattle.std.specs.Prelude.{◌≡◌, ◌≢◌, ◌≤◌, Err, IfErr, IfOk, None, Ok, Some, length};
 ghost use Rattle.std.specs.IoError.{error_kind};
 
-use crate::transfer::{fill, put_all};
+use crate::reading::fill;
+use crate::writing::put_all;
 use std::fs::{self, Metadata, OpenFile, OpenOptions};
 use std::io::{self, Error, ErrorKind, Seek, SeekFrom};
 use std::os::unix::fs::{FileTypeExt, MetadataExt};
