@@ -1,0 +1,4 @@
+pub mod Marks
+pub mod Stored
+pub mod Memory
+pub mod MemorySink

@@ -1,0 +1,15 @@
+//! Objects in memory that meet the traits of the outside and tell all they hold.
+//!
+//! Calls of them can be marked to fail, so that each fault of an outside can be tried in turn.
+#![tactic(auto)]
+
+mod marks;
+mod memory_desk;
+mod memory_sink;
+mod stored;
+
+pub use memory_desk::MemoryDesk;
+pub use memory_sink::MemorySink;
+
+#[cfg(test)]
+mod tests;
