@@ -1,5 +1,6 @@
 mod Zeros
 mod Accepted
+mod OpenedLemmas
 mod Parts
 mod RoundTrip
 pub mod Ranges

@@ -1,7 +1,7 @@
 -- Parts of a file that stand behind each other.
-use Rattle.std.proofs.Common.{◌≡◌, ℕ, ◌+◌, ◌-◌, ◌≤◌, List, ◌++◌, length, take, drop, sym, ap, ◌∙◌, arith, append_assoc}
+use Rattle.std.proofs.Common.{◌≡◌, ℕ, ◌+◌, ◌-◌, ◌*◌, ◌≤◌, List, [], ◌++◌, length, take, drop, refl, sym, ap, ◌∙◌, arith, append_assoc}
 use Rattle.std.proofs.Math.Seq.{take-add}
-use Rattle.std.proofs.lemmas.List.{drop-drop}
+use Rattle.std.proofs.lemmas.List.{drop-drop, take_all, length-drop}
 use Rattle.rs01_outside.specs.Files.{Files, bytes_of}
 use Rattle.rs01_ecchead.specs.Header.{part}
 
@@ -26,3 +26,15 @@ pub piece_is : (f0 f1 : Files) (name into : List ℕ) (at len count : ℕ) → f
 piece_is f0 f1 name into at len count e l read fits =
     let same : length (bytes_of f1 name) ≡ length (bytes_of f0 name) = ap (λ (f : Files). length (bytes_of f name)) e in
     read (omega (arith, same, l)) ∙ (λ i. part (bytes_of (e i) name) at (l i))
+
+-- what stands behind the header, read in two parts
+pub two_parts : (f0 f1 : Files) (name : List ℕ) (n from to : ℕ) → f1 ≡ f0 → from ≡ 4096 + 4 * n → from ≤ to → length (bytes_of f0 name) ≡ to
+    → ([] ++ part (bytes_of f0 name) 4096 (4 * n)) ++ part (bytes_of f1 name) from (to - from) ≡ drop 4096 (bytes_of f0 name)
+two_parts f0 f1 name n from to e start order long =
+    let file = bytes_of f0 name in
+    let first : 4 * n ≡ from - 4096 = omega arith in
+    let total : from + (to - from) - 4096 ≡ length file - 4096 = omega (arith, long) in
+    (λ i. ([] ++ part file 4096 (first i)) ++ part (bytes_of (e i) name) from (to - from))
+    ∙ one_more_part file [] (part file from (to - from)) 4096 from (to - from) (omega arith) refl
+    ∙ ap (part file 4096) total
+    ∙ take_all (length file - 4096) (drop 4096 file) (omega (arith, length-drop 4096 file))

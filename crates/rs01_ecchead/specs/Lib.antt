@@ -2,3 +2,4 @@ pub mod Header
 pub mod Head
 pub mod EccFile
 pub mod Recorded
+pub mod Opened

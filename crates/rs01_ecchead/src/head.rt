@@ -1,6 +1,7 @@
 //! What a header tells, and why one is refused.
-ghost use Rattle.std.specs.Prelude.{◌≤◌};
+ghost use Rattle.std.specs.Prelude.{◌≡◌, ◌≤◌};
 
+use rs01_layers::Shape;
 use thiserror::Error;
 
 /// The fields of a header.
@@ -36,6 +37,19 @@ pub struct Head {
     ghost known_version: { needed ≤ 1 },
     ghost some_last: { 1 ≤ last_bytes },
     ghost last_fits: { last_bytes ≤ 2048 },
+}
+
+impl Head {
+    /// The number of sectors and of parity bytes.
+    pub fn shape(&self) -> Shape
+        ensures sectors { result.sectors ≡ self.now.sectors }
+        ensures parity { result.parity ≡ self.now.parity }
+    {
+        match Shape::new(self.sectors, self.parity) {
+            Ok(shape) => shape,
+            Err(_) => unreachable!(),
+        }
+    }
 }
 
 /// Why a header is refused: the first of these that fits, in this order.

@@ -5,6 +5,8 @@ mod head;
 mod head_read;
 mod head_write;
 pub mod laws;
+pub mod opened;
+pub mod opening;
 pub mod pieces;
 pub mod recorded;
 

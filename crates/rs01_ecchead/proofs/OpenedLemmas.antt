@@ -1,0 +1,104 @@
+-- What is told of a file that was found to have n bytes.
+use Rattle.std.proofs.Common.{◌≡◌, ◌≢◌, ℕ, ◌<◌, ◌≤◌, List, [], length, take, drop, refl, sym, ap, ◌∙◌, arith, Bool, true, false, ◌⊎◌, ⊎_elim}
+use Rattle.std.specs.Prelude.{Option, Some, None, Result, Ok, Err, nat_lt, ◌==◌, not, if◌then◌else◌}
+use Rattle.std.specs.Option.{option_map, unwrap_or}
+use Rattle.std.specs.Str.{bytes_eq}
+use Rattle.std.proofs.lemmas.Bool.Decides.{nat_tests, Decides-eqb}
+use Rattle.std.proofs.lemmas.Bool.{le-ltb, lt-ltb}
+use Rattle.md5.specs.Md5.{md5}
+use Rattle.rs01_outside.specs.Files.{Files, bytes_of}
+use Rattle.rs01_layers.specs.Layout.{file_size}
+use Rattle.rs01_ecchead.specs.declared.head.HeadRefusal.{HeadRefusal}
+use Rattle.rs01_ecchead.specs.declared.opened.EccRefusal.{EccRefusal}
+use Rattle.rs01_ecchead.specs.declared.opened.EccRefusal.TheVariants.{Body, Head, NoFile, OutOfMemory, ReadFault, Size}
+use Rattle.rs01_ecchead.specs.Header.{Fields, head_of}
+use Rattle.rs01_ecchead.specs.Opened.{opened, opened_with, opened_file, IsOfFile, IsOfHead}
+
+pub too_short : (o : Option (List ℕ)) (n : ℕ) → Some n ≡ option_map length o → n < 4096 → opened_file o ≡ Err (Size n 4096)
+unfolding opened
+too_short None n e l = cc
+too_short (Some file) n e l =
+    let same : length file ≡ n = cc in
+    rw same (rw (lt-ltb n 4096 l) refl)
+
+-- a file that is long enough is judged by its header
+long_enough : (file : List ℕ) (n : ℕ) → length file ≡ n → 4096 ≤ n → opened file ≡ opened_with (head_of (take 4096 file)) file
+unfolding opened
+long_enough file n same l = rw same (rw (le-ltb n 4096 l) refl)
+
+pub bad_head : (o : Option (List ℕ)) (n : ℕ) (why : HeadRefusal) → Some n ≡ option_map length o → 4096 ≤ n → head_of (take 4096 (unwrap_or o [])) ≡ Err why
+    → opened_file o ≡ Err (Head why)
+unfolding opened_with
+bad_head None n why e l h = cc
+bad_head (Some file) n why e l h =
+    let same : length file ≡ n = cc in
+    long_enough file n same l ∙ ap (λ (r : Result Fields HeadRefusal). opened_with r file) h
+
+pub bad_size : (o : Option (List ℕ)) (n : ℕ) (f : Fields) → Some n ≡ option_map length o → 4096 ≤ n → head_of (take 4096 (unwrap_or o [])) ≡ Ok f
+    → n ≢ file_size f.sectors f.parity → opened_file o ≡ Err (Size n (file_size f.sectors f.parity))
+unfolding opened_with
+bad_size None n f e l h ne = cc
+bad_size (Some file) n f e l h ne =
+    let same : length file ≡ n = cc in
+    let test : (n == file_size f.sectors f.parity) ≡ false = grind (arith, nat_tests) in
+    long_enough file n same l ∙ ap (λ (r : Result Fields HeadRefusal). opened_with r file) h ∙ rw same (rw test refl)
+
+-- a file of the right length is judged by its digest
+right_size : (file : List ℕ) (n : ℕ) (f : Fields) → length file ≡ n → 4096 ≤ n → head_of (take 4096 file) ≡ Ok f → n ≡ file_size f.sectors f.parity
+    → opened file ≡ (if not (bytes_eq (md5 (drop 4096 file)) f.body_sum) then Err (Body (md5 (drop 4096 file)) f.body_sum) else Ok f)
+unfolding opened_with
+right_size file n f same l h size =
+    let test : (length file == file_size f.sectors f.parity) ≡ true = (Decides-eqb (length file) (file_size f.sectors f.parity)).1 (same ∙ size) in
+    long_enough file n same l ∙ ap (λ (r : Result Fields HeadRefusal). opened_with r file) h ∙ rw test refl
+
+pub bad_body : (o : Option (List ℕ)) (n : ℕ) (f : Fields) (digest : List ℕ) → Some n ≡ option_map length o → 4096 ≤ n → head_of (take 4096 (unwrap_or o [])) ≡ Ok f
+    → n ≡ file_size f.sectors f.parity → digest ≡ md5 (drop 4096 (unwrap_or o [])) → bytes_eq digest f.body_sum ≡ false
+    → opened_file o ≡ Err (Body digest f.body_sum)
+bad_body None n f digest e l h size d test = cc
+bad_body (Some file) n f digest e l h size d test =
+    let same : length file ≡ n = cc in
+    right_size file n f same l h size ∙ rw (sym d) (rw test refl)
+
+pub all_right : (o : Option (List ℕ)) (n : ℕ) (f : Fields) (digest : List ℕ) → Some n ≡ option_map length o → 4096 ≤ n → head_of (take 4096 (unwrap_or o [])) ≡ Ok f
+    → n ≡ file_size f.sectors f.parity → digest ≡ md5 (drop 4096 (unwrap_or o [])) → bytes_eq digest f.body_sum ≡ true
+    → opened_file o ≡ Ok f
+all_right None n f digest e l h size d test = cc
+all_right (Some file) n f digest e l h size d test =
+    let same : length file ≡ n = cc in
+    right_size file n f same l h size ∙ rw (sym d) (rw test refl)
+
+pub size_is : (o : Option (List ℕ)) (n : ℕ) → Some n ≡ option_map length o → length (unwrap_or o []) ≡ n
+size_is None n e = cc
+size_is (Some file) n e = cc
+
+-- a refusal of the header alone
+pub by_header : (o : Option (List ℕ)) (n : ℕ) (w : EccRefusal) → Some n ≡ option_map length o → 4096 ≤ n → (w ≡ ReadFault) ⊎ IsOfHead w → IsOfFile w
+    → ((why : HeadRefusal) → w ≡ Head why → head_of (take 4096 (unwrap_or o [])) ≡ Err why) → opened_file o ≡ Err w
+by_header o n (Head why) e l cause of h = bad_head o n why e l (h why refl)
+by_header o n NoFile e l cause of h = absurd (⊎_elim (λ f. cc) (λ f. f) cause)
+by_header o n (Size have want) e l cause of h = absurd (⊎_elim (λ f. cc) (λ f. f) cause)
+by_header o n (Body have want) e l cause of h = absurd (⊎_elim (λ f. cc) (λ f. f) cause)
+by_header o n ReadFault e l cause of h = absurd of
+by_header o n OutOfMemory e l cause of h = absurd of
+
+-- what was read later, when the files were still the same
+pub long_then : (f0 f1 : Files) (name : List ℕ) (n : ℕ) → Some n ≡ option_map length (f0 name) → f1 ≡ f0 → length (bytes_of f1 name) ≡ n
+long_then f0 f1 name n e same = ap (λ (f : Files). length (bytes_of f name)) same ∙ size_is (f0 name) n e
+
+pub head_then : (f0 f1 : Files) (name : List ℕ) (n : ℕ) (r : Result Fields HeadRefusal) → Some n ≡ option_map length (f0 name) → f1 ≡ f0 → 4096 ≤ n
+    → (4096 ≤ length (bytes_of f1 name) → head_of (take 4096 (bytes_of f1 name)) ≡ r) → head_of (take 4096 (bytes_of f0 name)) ≡ r
+head_then f0 f1 name n r e same l read =
+    ap (λ (f : Files). head_of (take 4096 (bytes_of f name))) (sym same) ∙ read (omega (arith, long_then f0 f1 name n e same))
+
+pub digest_then : (f0 f1 : Files) (name : List ℕ) (n want : ℕ) (digest : List ℕ) → Some n ≡ option_map length (f0 name) → f1 ≡ f0 → n ≡ want
+    → (length (bytes_of f1 name) ≡ want → digest ≡ md5 (drop 4096 (bytes_of f1 name))) → digest ≡ md5 (drop 4096 (bytes_of f0 name))
+digest_then f0 f1 name n want digest e same size read =
+    read (long_then f0 f1 name n e same ∙ size) ∙ ap (λ (f : Files). md5 (drop 4096 (bytes_of f name))) same
+
+pub differs : (b r : Bool) → r ≡ not b → r ≡ true → b ≡ false
+differs true r e t = cc
+differs false r e t = refl
+
+pub agrees : (b r : Bool) → r ≡ not b → r ≡ false → b ≡ true
+agrees true r e t = refl
+agrees false r e t = cc
