@@ -1,2 +1,4 @@
 pub mod CrcLemmas
 pub mod MarkerLemmas
+mod ZeroLemmas
+mod TableLemmas

@@ -14,6 +14,11 @@ unfoldable pub after_bits : ℕ → List ℕ → ℕ
 after_bits state [] = state
 after_bits state (bit ∷ more) = after_bits (after_bit state bit) more
 
+-- n zero bits
+unfoldable pub after_zeros : ℕ → ℕ → ℕ
+after_zeros zero state = state
+after_zeros (suc n) state = after_zeros n (after_bit state 0)
+
 unfoldable pub after_bytes : ℕ → List ℕ → ℕ
 after_bytes state [] = state
 after_bytes state (byte ∷ more) = after_bytes (after_bits state (bits 8 byte)) more

@@ -1,39 +1,63 @@
 //! The checksum of a sector.
 
-ghost use Rattle.std.specs.Prelude.{◌≡◌};
-ghost use Rattle.rs01_sums.specs.Crc.{after_bit, after_bits, bits, crc};
+ghost use Rattle.std.specs.Prelude.{◌≡◌, ◌+◌, ◌*◌, ◌<◌, length};
+ghost use Rattle.rs01_sums.specs.Crc.{after_bits, after_bytes, after_zeros, bits, crc};
 
-// The number after a bit of the list.
-fn after_bit(state: u32, bit: u8) -> u32
-    ensures { result ≡ after_bit state bit }
+use crate::tables::AFTER_ZEROS;
+
+// The number that a byte leads to after 8, 16, .. 64 zero bits, by the table's row.
+fn entry(row: usize, byte: u8) -> u32
+    requires { row < 8 }
+    ensures { result ≡ after_zeros (8 * (row + 1)) byte }
 {
-    if state % 2 == u32::from(bit) {
-        state / 2
-    } else {
-        (state / 2) ^ 0xedb8_8320
-    }
+    AFTER_ZEROS[row][byte as usize]
 }
 
 // The number after the eight bits of a byte, the lowest first.
-fn after_byte(start: u32, byte: u8) -> u32
-    ensures { result ≡ after_bits start (bits 8 byte) }
+fn after_byte(state: u32, byte: u8) -> u32
+    ensures { result ≡ after_bits state (bits 8 byte) }
+{
+    entry(0, (state % 256) as u8 ^ byte) ^ (state / 256)
+}
+
+// The number after eight bytes. Each byte leads to a number of its own, and these are added: the
+// first four bytes meet those of the state.
+fn after_eight(state: u32, eight: &[u8]) -> u32
+    requires { length eight.now ≡ 8 }
+    ensures { result ≡ after_bytes state eight.now }
+{
+    let first = entry(7, (state % 256) as u8 ^ eight[0]);
+    let second = entry(6, (state / 256 % 256) as u8 ^ eight[1]);
+    let third = entry(5, (state / 65_536 % 256) as u8 ^ eight[2]);
+    let fourth = entry(4, (state / 16_777_216) as u8 ^ eight[3]);
+    let last = entry(3, eight[4])
+        ^ (entry(2, eight[5]) ^ (entry(1, eight[6]) ^ entry(0, eight[7])));
+    (first ^ (second ^ (third ^ fourth))) ^ last
+}
+
+// The number after bytes that are taken one at a time.
+fn after_each(start: u32, bytes: &[u8]) -> u32
+    ensures { result ≡ after_bytes start bytes.now }
 {
     let mut state = start;
-    let mut rest = byte;
-    for _ in 0..8u32 {
-        state = after_bit(state, rest % 2);
-        rest /= 2;
+    for byte in bytes {
+        state = after_byte(state, *byte);
     }
     state
 }
 
 /// The CRC-32 of ISO/IEC 13239 of a list of bytes.
+///
+/// Eight bytes are taken at once.
 pub fn crc32(bytes: &[u8]) -> u32
     ensures { result ≡ crc bytes.now }
 {
     let mut state = u32::MAX;
-    for byte in bytes {
-        state = after_byte(state, *byte);
+    let mut rest = bytes;
+    while rest.len() >= 8 {
+        let (eight, later) = rest.split_at(8);
+        state = after_eight(state, eight);
+        rest = later;
     }
-    !state
+    !after_each(state, rest)
 }

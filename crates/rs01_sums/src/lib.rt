@@ -5,6 +5,7 @@ pub mod checksum;
 pub mod laws;
 pub mod markers;
 pub mod sums;
+mod tables;
 pub mod usability;
 
 pub use checksum::crc32;

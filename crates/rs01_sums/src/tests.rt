@@ -5,6 +5,11 @@ use std::test::Fail;
 #[test]
 fn known_checksums(rt: HostRuntime) {
     assert_eq!(rt; crc32(b"123456789"), 0xcbf4_3926);
+    assert_eq!(rt;
+        crc32(b"The quick brown fox jumps over the lazy dog"),
+        0x414f_a339
+    );
+    assert_eq!(rt; crc32(b"1234567"), 0x5003_699f);
     assert_eq!(rt; crc32(b""), 0);
 }
 

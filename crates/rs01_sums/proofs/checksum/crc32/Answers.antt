@@ -1,21 +1,23 @@
-use Rattle.std.proofs.Common.{◌≡◌, ℕ, ◌+◌, ◌-◌, ◌<◌, ◌≤◌, List, length, get_or, drop, arith, sym, ap, ◌∙◌}
-use Rattle.std.proofs.lemmas.List.{at_drop_more, at_drop_all}
-use Rattle.rs01_sums.specs.Crc.{after_bits, after_bytes, bits, crc}
+use Rattle.std.proofs.Common.{◌≡◌, ℕ, ◌-◌, List, ◌++◌, sym, ap, ◌∙◌}
+use Rattle.std.proofs.lemmas.List.{take-append-drop}
+use Rattle.rs01_sums.specs.Crc.{after_bytes, crc}
+use Rattle.rs01_sums.proofs.ZeroLemmas.{after_bytes-append}
 use Rattle.rs01_sums.proofs.checksum.crc32.Goals as goal
 
-next_byte : (bytes : List ℕ) (state next i all : ℕ) → i < length bytes → next ≡ after_bits state (bits 8 (get_or bytes i 0))
-    → after_bytes state (drop i bytes) ≡ all → after_bytes next (drop (i + 1) bytes) ≡ all
-unfolding after_bytes
-next_byte bytes state next i all h e held =
-    ap (λ s. after_bytes s (drop (i + 1) bytes)) e ∙ sym (at_drop_more (after_bytes state) bytes i 0 h) ∙ held
+next_eight : (rest eight later : List ℕ) (state next all : ℕ) → rest ≡ eight ++ later → next ≡ after_bytes state eight
+    → after_bytes state rest ≡ all → after_bytes next later ≡ all
+next_eight rest eight later state next all split e held =
+    ap (λ s. after_bytes s later) e ∙ sym (after_bytes-append eight later state) ∙ ap (after_bytes state) (sym split) ∙ held
 
-last_byte : (bytes : List ℕ) (state i : ℕ) → length bytes ≤ i → after_bytes state (drop i bytes) ≡ after_bytes 0xFFFFFFFF bytes
-    → 0xFFFFFFFF - state ≡ crc bytes
-unfolding after_bytes crc
-last_byte bytes state i h held = ap (λ s. 0xFFFFFFFF - s) (sym (at_drop_all (after_bytes state) bytes i h) ∙ held)
+complement : (bytes : List ℕ) (last : ℕ) → last ≡ after_bytes 0xFFFFFFFF bytes → 0xFFFFFFFF - last ≡ crc bytes
+unfolding crc
+complement bytes last e = ap (λ s. 0xFFFFFFFF - s) e
 
-pub loop-byte-preserved : goal.loop-byte-preserved
-loop-byte-preserved c = next_byte c.args.bytes.now c.loop-byte.state _ c.loop-byte.byte-index _ (omega arith) c.after_byte-state.ensures c.loop-byte.invariant
+pub loop-rest-preserved : goal.loop-rest-preserved
+loop-rest-preserved c =
+    next_eight c.loop-rest.rest.now c.split_at.result.0.now c.split_at.result.1.now c.loop-rest.state c.after_eight-state.result _
+    (sym ((λ i. c.split_at.ensures.front i ++ c.split_at.ensures.back i) ∙ take-append-drop 8 c.loop-rest.rest.now))
+    c.after_eight-state.ensures c.loop-rest.invariant
 
 pub returns : goal.returns
-returns c = last_byte c.args.bytes.now c.loop-byte.state c.loop-byte.byte-index (omega arith) c.loop-byte.invariant
+returns c = complement c.args.bytes.now c.after_each.result (c.after_each.ensures ∙ c.loop-rest.invariant)

@@ -1,7 +1,10 @@
-use Rattle.std.proofs.Common.{◌≡◌, drop}
+use Rattle.std.proofs.Common.{◌≡◌, length}
 use Rattle.rs01_sums.specs.Crc.{after_bytes}
 use Rattle.rs01_sums.proofs.checksum.crc32.Given as goal
 
 -- the bytes that are left lead to the same number
-abbrev pub invariant-loop-byte : goal.invariant-loop-byte
-invariant-loop-byte l = after_bytes l.state (drop l.byte-index l.bytes) ≡ after_bytes 0xFFFFFFFF l.bytes
+abbrev pub invariant-loop-rest : goal.invariant-loop-rest
+invariant-loop-rest l = after_bytes l.state l.rest ≡ after_bytes 0xFFFFFFFF l.bytes
+
+abbrev pub decreases-loop-rest : goal.decreases-loop-rest
+decreases-loop-rest l = length l.rest
