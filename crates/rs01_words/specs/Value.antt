@@ -1,0 +1,40 @@
+-- The value that a word stands for, by its kind.
+use Rattle.std.specs.Prelude.{ℕ, ◌+◌, ◌-◌, ◌*◌, List, [], ◌∷◌, Bool, true, false, not, ◌&&◌, ◌==◌, nat_lt, nat_le, Option, Some, None, Result, Ok, Err, codes, fold, length, if◌then◌else◌}
+use Rattle.std.specs.List.{list_all}
+use Rattle.std.specs.Str.{bytes_eq}
+use Rattle.rs01_words.specs.declared.table.Kind.{Kind}
+use Rattle.rs01_words.specs.declared.table.Kind.TheVariants.{Name, Drive, Number, Parity}
+use Rattle.rs01_words.specs.declared.table.TheConstants.{NORMAL, HIGH}
+use Rattle.rs01_words.specs.declared.fault.WordFault.{WordFault}
+use Rattle.rs01_words.specs.declared.fault.WordFault.TheVariants.{BadNumber, OutOfRange}
+
+-- whether a character is one of 0 to 9
+abbrev pub is_digit : ℕ → Bool
+is_digit b = nat_le 48 b && nat_le b 57
+
+-- whether a word is one or more digits
+abbrev pub is_decimal : List ℕ → Bool
+is_decimal word = not (length word == 0) && list_all is_digit word
+
+-- the number that decimal digits stand for, the first digit highest
+unfoldable pub number_of : List ℕ → ℕ
+number_of word = fold (λ n b. 10 * n + (b - 48)) 0 word
+
+-- a number, where it is at most high
+abbrev pub up_to : ℕ → ℕ → Option ℕ
+up_to high n = if nat_le n high then Some n else None
+
+-- the number of a word, where it is one from low to high
+abbrev pub number_within : ℕ → ℕ → List ℕ → Result ℕ WordFault
+number_within low high word =
+    if not (is_decimal word) then Err BadNumber
+    else (if nat_le low (number_of word) && nat_le (number_of word) high then Ok (number_of word) else Err OutOfRange)
+
+-- the number that a word stands for; a name stands for none, and 0 is put in its place
+abbrev pub value_of : Kind → List ℕ → Result ℕ WordFault
+value_of Name word = Ok 0
+value_of Drive word = Ok 0
+value_of (Number low high) word = number_within low high word
+value_of (Parity low high) word =
+    if bytes_eq word (codes "normal") then Ok NORMAL
+    else (if bytes_eq word (codes "high") then Ok HIGH else number_within low high word)

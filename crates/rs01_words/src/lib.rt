@@ -1,0 +1,8 @@
+//! The words of the command line: what they ask for, or the first fault in them.
+#![tactic(auto)]
+
+mod fault;
+mod table;
+mod value;
+
+pub use fault::{WordFault, WordRefused};
