@@ -48,9 +48,9 @@ needed_of Read = 1
 needed_of Demo = 4
 
 -- the command that a word names
-abbrev pub verb_of : List ℕ → Option Verb
+unfoldable pub verb_of : List ℕ → Option Verb
 verb_of word = look_up commands word
 
 -- the rule of the option that a word names, where the command has it
-abbrev pub option_of : Verb → List ℕ → Option OptionRule
+unfoldable pub option_of : Verb → List ℕ → Option OptionRule
 option_of verb word = look_up (options_of verb) word

@@ -4,5 +4,6 @@
 mod fault;
 mod table;
 mod value;
+mod walk;
 
 pub use fault::{WordFault, WordRefused};

@@ -106,6 +106,7 @@ pub static DEMO_NUMBERS: [Kind; 4] = [
 ];
 
 /// The command that a word names.
+#[tactic(auto, unfolding(crate::specs::Table::verb_of))]
 pub fn verb_of(word: &str) -> Option<Verb>
     ensures { result ≡ verb_of word.now }
 {
@@ -127,6 +128,7 @@ pub fn verb_of(word: &str) -> Option<Verb>
 }
 
 /// The rule of the option that a word names, where the command has it.
+#[tactic(auto, unfolding(crate::specs::Table::option_of))]
 pub fn option_of(verb: Verb, word: &str) -> Option<OptionRule>
     ensures { result ≡ option_of verb word.now }
 {
@@ -139,6 +141,7 @@ pub fn option_of(verb: Verb, word: &str) -> Option<OptionRule>
     }
 }
 
+#[tactic(auto, unfolding(crate::specs::Table::option_of))]
 fn create_option(word: &str) -> Option<OptionRule>
     ensures { result ≡ option_of Verb.Create word.now }
 {
@@ -151,6 +154,7 @@ fn create_option(word: &str) -> Option<OptionRule>
     }
 }
 
+#[tactic(auto, unfolding(crate::specs::Table::option_of))]
 fn fix_option(word: &str) -> Option<OptionRule>
     ensures { result ≡ option_of Verb.Fix word.now }
 {
@@ -163,12 +167,14 @@ fn fix_option(word: &str) -> Option<OptionRule>
     }
 }
 
+#[tactic(auto, unfolding(crate::specs::Table::option_of))]
 fn scan_option(word: &str) -> Option<OptionRule>
     ensures { result ≡ option_of Verb.Scan word.now }
 {
     if word == "--drive" { Some(DRIVE) } else { None }
 }
 
+#[tactic(auto, unfolding(crate::specs::Table::option_of))]
 fn read_option(word: &str) -> Option<OptionRule>
     ensures { result ≡ option_of Verb.Read word.now }
 {
