@@ -1,3 +1,4 @@
 mod Numbers
 mod Places
 mod Steps
+mod Refusals

@@ -1,5 +1,5 @@
 -- Lists of places, one place more at a time.
-use Rattle.std.proofs.Common.{◌≡◌, ℕ, zero, suc, ◌+◌, ◌-◌, ◌<◌, ◌≤◌, Bool, true, false, cond, List, [], ◌∷◌, ◌++◌, length, filter, sym, ◌∙◌, ap, refl, arith, Some, None, length-append}
+use Rattle.std.proofs.Common.{◌≡◌, ℕ, zero, suc, ◌+◌, ◌-◌, ◌<◌, ◌≤◌, Bool, true, false, cond, subst, List, [], ◌∷◌, ◌++◌, length, filter, sym, ◌∙◌, ap, refl, arith, Some, None, length-append}
 use Rattle.std.specs.List.{range_with_len, slice_get, find}
 use Rattle.std.specs.Option.{option_or}
 use Rattle.std.proofs.lemmas.List.Elements.{filter-append}
@@ -80,3 +80,11 @@ pub find-more : (test : ℕ → Bool) (i : ℕ) → 0 < i → test i ≡ false �
 find-more test i pos fail none =
     let here : find test (i ∷ []) ≡ None = ap (λ b. cond b (Some i) None) fail in
     ap (find test) (places_below-more i pos) ∙ find-append test (places_below i) (i ∷ []) ∙ ap (λ o. option_or o (find test (i ∷ []))) none ∙ here
+
+-- no place passes
+pub find_end : (test : ℕ → Bool) (place end : ℕ) → end ≤ place → (1 ≤ end → place ≤ end) → find test (places_below place) ≡ None → find test (places_below end) ≡ None
+find_end test place zero past upto none = refl
+find_end test place (suc end) past upto none =
+    let e : place ≡ suc end = omega (arith, upto (omega arith)) in
+    let P : ℕ → Type 0 = λ n. find test (places_below n) ≡ None in
+    subst P e none

@@ -1,3 +1,4 @@
 pub mod Table
 pub mod Value
 pub mod Line
+pub mod Refusal

@@ -46,11 +46,12 @@ plain_places verb words n = filter (is_plain verb words) (places_below n)
 unfoldable pub given_places : Verb → List (List ℕ) → List ℕ → ℕ → List ℕ
 given_places verb words option n = filter (is_given verb words option) (places_below n)
 
--- what the word at a place stands for, where it is no option
-abbrev pub kind_at : Verb → List (List ℕ) → ℕ → Option Kind
+-- what the word at a place stands for; an option stands for none, nor does a plain word too many
+unfoldable pub kind_at : Verb → List (List ℕ) → ℕ → Option Kind
 kind_at verb words i =
     if is_value verb words i then value_kind verb (word_at words (i - 1))
-    else slice_get (plain_kinds verb) (length (plain_places verb words i))
+    else (if is_option (word_at words i) then None
+    else slice_get (plain_kinds verb) (length (plain_places verb words i)))
 
 -- what the words before a place say of it: whether it is a value, and how many plain words there are
 abbrev pub before_at : Verb → List (List ℕ) → ℕ → Before

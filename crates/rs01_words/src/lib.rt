@@ -2,6 +2,7 @@
 #![tactic(auto)]
 
 mod fault;
+mod refusal;
 mod table;
 mod value;
 mod walk;

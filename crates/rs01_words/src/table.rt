@@ -31,8 +31,8 @@ pub enum Verb {
 pub struct OptionRule {
     /// What its value is. None where it takes no value.
     pub value: Option<Kind>,
-    /// How often it may be given.
-    pub most: usize,
+    /// How often it may be given again after the first time.
+    pub again: usize,
     /// The number that holds where the option isn't given.
     pub default: u64,
 }
@@ -51,42 +51,42 @@ const PARITY_BYTES: Kind = Kind::Parity { low: 8, high: 100 };
 /// `--parity`: the parity bytes of a codeword.
 pub const PARITY: OptionRule = OptionRule {
     value: Some(PARITY_BYTES),
-    most: 1,
+    again: 0,
     default: NORMAL,
 };
 
 /// `--workers`: how many threads work.
 pub const WORKERS: OptionRule = OptionRule {
     value: Some(Kind::Number { low: 1, high: 32 }),
-    most: 1,
+    again: 0,
     default: 2,
 };
 
 /// `--jump`: how many sectors linear reading goes on after a failed one.
 pub const JUMP: OptionRule = OptionRule {
     value: Some(Kind::Number { low: 1, high: 1_048_576 }),
-    most: 1,
+    again: 0,
     default: 1,
 };
 
 /// `--tries`: how often a sector is asked for.
 pub const TRIES: OptionRule = OptionRule {
     value: Some(Kind::Number { low: 1, high: 16 }),
-    most: 1,
+    again: 0,
     default: 1,
 };
 
 /// `--drive`: the name of a drive.
 pub const DRIVE: OptionRule = OptionRule {
     value: Some(Kind::Drive),
-    most: MOST_DRIVES,
+    again: MOST_DRIVES - 1,
     default: 0,
 };
 
 /// An option that is there or not: `--cut`, `--adaptive`.
 pub const SWITCH: OptionRule = OptionRule {
     value: None,
-    most: 1,
+    again: 0,
     default: 0,
 };
 

@@ -1,5 +1,5 @@
 //! A walk over the words after the command, from left to right.
-ghost use Rattle.std.specs.Prelude.{◌≡◌, ◌+◌, ◌<◌, ◌≤◌, length, map, string_bytes};
+ghost use Rattle.std.specs.Prelude.{◌≡◌, ◌+◌, ◌<◌, ◌≤◌, length, map, string_bytes, IfSome};
 ghost use Rattle.std.specs.List.{slice_get};
 ghost use Rattle.rs01_words.specs.Line.{word_at, is_option, value_kind, is_plain, is_given, plain_places, given_places, kind_at, before_at};
 
@@ -73,7 +73,9 @@ pub fn next(verb: Verb, words: &[String], place: usize, before: Before) -> Befor
     }
 }
 
-/// What the word at a place stands for, where it is no option.
+/// What the word at a place stands for. An option stands for nothing, nor does a plain word too
+/// many.
+#[tactic(auto, unfolding(crate::specs::Line::kind_at))]
 pub fn kind_at(verb: Verb, words: &[String], place: usize, before: Before) -> Option<Kind>
     requires inside { place < length words.now }
     requires after_command { 0 < place }
@@ -82,6 +84,8 @@ pub fn kind_at(verb: Verb, words: &[String], place: usize, before: Before) -> Op
 {
     if before.is_value {
         value_kind(verb, word_at(words, place - 1))
+    } else if is_option(word_at(words, place)) {
+        None
     } else {
         plain_kinds(verb).get(before.plain).copied()
     }
@@ -122,8 +126,9 @@ pub fn given_place(
     count: usize,
 ) -> Option<usize>
     requires { end ≤ length words.now }
-    ensures { result
+    ensures value { result
         ≡ slice_get (given_places verb (map string_bytes words.now) option.now end) count }
+    ensures within { IfSome result (λ place. place < end) }
 {
     let mut seen: usize = 0;
     let mut before = start(verb, words);
@@ -141,8 +146,9 @@ pub fn given_place(
 
 /// The place of the plain word with this number, counted from 0.
 pub fn plain_place(verb: Verb, words: &[String], number: usize) -> Option<usize>
-    ensures { result
+    ensures value { result
         ≡ slice_get (plain_places verb (map string_bytes words.now) (length words.now)) number }
+    ensures within { IfSome result (λ place. place < length words.now) }
 {
     let mut before = start(verb, words);
     for place in 1..words.len() {

@@ -11,8 +11,8 @@ loop-place-init c = record {
   passed = omega arith
 }
 
-pub returns-then-seen-count : goal.returns-then-seen-count
-returns-then-seen-count c =
+pub returns-then-seen-count-clause-value : goal.returns-then-seen-count-clause-value
+returns-then-seen-count-clause-value c =
     given_places_at _ _ _ _ _ _ (omega arith) c.loop-place-test.true (sym c.is_given.ensures ∙ c.if-is_given.true)
     (sym c.if-seen-count.true ∙ c.loop-place.invariant.counted)
 
@@ -30,6 +30,6 @@ loop-place-preserved c =
       passed = elim c.if-is_given.branch [ then-is_given+else-seen-count w ↦ omega arith | else-is_given w ↦ omega arith ]
     }
 
-pub returns : goal.returns
-returns c =
+pub returns-clause-value : goal.returns-clause-value
+returns-clause-value c =
     given_places_end _ _ _ c.loop-place.place _ c.loop-place.seen _ c.loop-place-test.false c.loop-place.auto.place-end c.loop-place.invariant.counted c.loop-place.invariant.passed

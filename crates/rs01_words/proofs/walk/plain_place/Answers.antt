@@ -10,8 +10,8 @@ loop-place-init c = record {
   passed = omega (arith, plain_places-one c.args.verb (map string_bytes c.args.words.now))
 }
 
-pub returns-then-is_plain : goal.returns-then-is_plain
-returns-then-is_plain c =
+pub returns-then-is_plain-clause-value : goal.returns-then-is_plain-clause-value
+returns-then-is_plain-clause-value c =
     plain_places_at _ _ _ _ _ (omega arith) c.loop-place-test.true (sym c.is_plain.ensures ∙ c.if-is_plain.true)
     (sym c.if-before-number.true ∙ ap (λ b. b.plain) c.loop-place.invariant.known)
 
@@ -29,6 +29,6 @@ loop-place-preserved c =
             omega (arith, plain_places-most c.args.verb texts i (omega arith)) ]
     }
 
-pub returns : goal.returns
-returns c =
+pub returns-clause-value : goal.returns-clause-value
+returns-clause-value c =
     plain_places_end _ _ c.loop-place.place _ _ c.loop-place-test.false c.loop-place.auto.place-end c.loop-place.invariant.passed
