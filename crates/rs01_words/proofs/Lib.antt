@@ -1,4 +1,4 @@
 mod Numbers
-mod Places
+mod PlaceLists
 mod Steps
 mod Refusals

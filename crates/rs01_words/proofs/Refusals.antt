@@ -12,7 +12,7 @@ use Rattle.rs01_words.specs.declared.fault.WordFault.TheVariants.{Missing, SameN
 use Rattle.rs01_words.specs.Table.{needed_of}
 use Rattle.rs01_words.specs.Line.{word_at, kind_at, places_below, plain_places}
 use Rattle.rs01_words.specs.Refusal.{fault_at, has_fault, refused, first_fault, missing_word, must_differ, clash, repeats_name, same_name}
-use Rattle.rs01_words.proofs.Places.{find_at, find_end}
+use Rattle.rs01_words.proofs.PlaceLists.{find_at, find_end}
 
 -- the first fault
 pub first_fault-Some : (verb : Verb) (words : List (List ℕ)) (i : ℕ) (fault : WordFault) → 0 < i → i < length words → Some fault ≡ fault_at verb words i → find (has_fault verb words) (places_below i) ≡ None → Some (refused fault i) ≡ first_fault verb words

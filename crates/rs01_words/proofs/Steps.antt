@@ -8,7 +8,7 @@ use Rattle.std.specs.Str.{bytes_eq}
 use Rattle.rs01_words.specs.declared.table.Verb.{Verb}
 use Rattle.rs01_words.specs.declared.walk.Before.{Before}
 use Rattle.rs01_words.specs.Line.{word_at, is_option, value_kind, is_value, is_plain, is_given, plain_places, given_places, places_below, before_at}
-use Rattle.rs01_words.proofs.Places.{length-filter-more, length-filter-below, filter-more, found_at}
+use Rattle.rs01_words.proofs.PlaceLists.{length-filter-more, length-filter-below, filter-more, found_at}
 
 after_command : (i : ℕ) → 0 < i → nat_lt 0 i ≡ true
 after_command i pos = grind (arith, nat_tests)

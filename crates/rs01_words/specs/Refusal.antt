@@ -1,8 +1,8 @@
 -- What is wrong with the words of a command.
-use Rattle.std.specs.Prelude.{ℕ, ◌+◌, List, Bool, true, false, not, ◌&&◌, ◌==◌, nat_lt, Option, Some, None, is_some, option_map, length, if◌then◌else◌}
+use Rattle.std.specs.Prelude.{ℕ, ◌+◌, List, Bool, true, false, not, ◌&&◌, ◌==◌, nat_lt, Option, Some, None, is_some, option_map, unwrap_or, length, if◌then◌else◌}
 use Rattle.std.specs.List.{find, slice_get}
 use Rattle.std.specs.Option.{option_and_then, option_or}
-use Rattle.std.specs.Result.{result_err, result_unwrap_or}
+use Rattle.std.specs.Result.{result_err}
 use Rattle.std.specs.Str.{bytes_eq}
 use Rattle.rs01_words.specs.declared.fault.WordFault.{WordFault}
 use Rattle.rs01_words.specs.declared.fault.WordFault.TheVariants.{UnknownOption, Repeated, NoValue, OutOfRange, Missing, SameName}
@@ -12,8 +12,9 @@ use Rattle.rs01_words.specs.declared.table.Kind.TheVariants.{Name, Drive, Number
 use Rattle.rs01_words.specs.declared.table.Verb.{Verb}
 use Rattle.rs01_words.specs.declared.table.Verb.TheVariants.{Create, Fix, Verify, Scan, Read, Demo}
 use Rattle.rs01_words.specs.declared.table.OptionRule.{OptionRule}
-use Rattle.rs01_words.specs.Table.{option_of, plain_kinds, needed_of}
-use Rattle.rs01_words.specs.Value.{value_of}
+use Rattle.rs01_words.specs.Table.{option_of, needed_of}
+use Rattle.rs01_words.specs.declared.table.TheConstants.{SECTORS, LOST}
+use Rattle.rs01_words.specs.Value.{value_of, kind_low, number_or}
 use Rattle.rs01_words.specs.Line.{word_at, is_option, is_value, kind_at, places_below, plain_places, given_places}
 
 -- the fault of an option: its rule, how often it was given before, and whether it is the last word
@@ -54,22 +55,20 @@ unfoldable pub missing_word : Verb → List (List ℕ) → Option WordRefused
 missing_word verb words =
     if nat_lt (length (plain_places verb words (length words))) (needed_of verb) then Some (refused Missing (length words)) else None
 
--- the number that a word of this kind stands for, and 0 where there is none
-abbrev pub number_at : Option Kind → Option (List ℕ) → ℕ
-number_at None word = 0
-number_at (Some kind) None = 0
-number_at (Some kind) (Some word) = result_unwrap_or (value_of kind word) 0
+-- the place of a plain word, by its number among the plain words; 0 where there is none
+abbrev pub plain_at : Verb → List (List ℕ) → ℕ → ℕ
+plain_at verb words n = unwrap_or (slice_get (plain_places verb words (length words)) n) 0
 
--- the number that a plain word stands for, by its number among the plain words
-unfoldable pub plain_number : Verb → List (List ℕ) → ℕ → ℕ
-plain_number verb words n =
-    number_at (slice_get (plain_kinds verb) n) (option_map (word_at words) (slice_get (plain_places verb words (length words)) n))
+-- the number that a plain word stands for, by its number among the plain words; the least of its range
+-- where it stands for none
+unfoldable pub plain_number : Verb → List (List ℕ) → ℕ → Kind → ℕ
+plain_number verb words n kind = number_or kind (kind_low kind) (word_at words (plain_at verb words n))
 
 -- `demo` is to lose more sectors than it makes
-abbrev pub too_many_lost : Verb → List (List ℕ) → Option WordRefused
+unfoldable pub too_many_lost : Verb → List (List ℕ) → Option WordRefused
 too_many_lost Demo words =
-    option_map (λ i. refused OutOfRange i)
-    (if nat_lt (plain_number Demo words 1) (plain_number Demo words 3) then slice_get (plain_places Demo words (length words)) 3 else None)
+    if nat_lt (plain_number Demo words 1 SECTORS) (plain_number Demo words 3 LOST)
+    then Some (refused OutOfRange (plain_at Demo words 3)) else None
 too_many_lost Create words = None
 too_many_lost Fix words = None
 too_many_lost Verify words = None

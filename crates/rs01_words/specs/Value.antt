@@ -1,6 +1,7 @@
 -- The value that a word stands for, by its kind.
 use Rattle.std.specs.Prelude.{ℕ, ◌+◌, ◌-◌, ◌*◌, List, [], ◌∷◌, Bool, true, false, not, ◌&&◌, ◌==◌, nat_lt, nat_le, Option, Some, None, Result, Ok, Err, codes, fold, length, if◌then◌else◌}
 use Rattle.std.specs.List.{list_all}
+use Rattle.std.specs.Result.{result_unwrap_or}
 use Rattle.std.specs.Str.{bytes_eq}
 use Rattle.rs01_words.specs.declared.table.Kind.{Kind}
 use Rattle.rs01_words.specs.declared.table.Kind.TheVariants.{Name, Drive, Number, Parity}
@@ -38,3 +39,27 @@ value_of (Number low high) word = number_within low high word
 value_of (Parity low high) word =
     if bytes_eq word (codes "normal") then Ok NORMAL
     else (if bytes_eq word (codes "high") then Ok HIGH else number_within low high word)
+
+-- the least and the greatest number of a kind; a name stands for 0
+abbrev pub kind_low : Kind → ℕ
+kind_low Name = 0
+kind_low Drive = 0
+kind_low (Number low high) = low
+kind_low (Parity low high) = low
+
+abbrev pub kind_high : Kind → ℕ
+kind_high Name = 0
+kind_high Drive = 0
+kind_high (Number low high) = high
+kind_high (Parity low high) = high
+
+-- whether a kind's range has a number, and the presets lie in it
+abbrev pub is_sound : Kind → Bool
+is_sound Name = true
+is_sound Drive = true
+is_sound (Number low high) = nat_le low high
+is_sound (Parity low high) = nat_le low NORMAL && nat_le HIGH high
+
+-- the number that a word stands for, and the one given for a word that stands for none
+abbrev pub number_or : Kind → ℕ → List ℕ → ℕ
+number_or kind other word = result_unwrap_or (value_of kind word) other

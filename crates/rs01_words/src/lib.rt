@@ -1,10 +1,15 @@
 //! The words of the command line: what they ask for, or the first fault in them.
 #![tactic(auto)]
 
+mod command;
 mod fault;
+mod places;
+mod plain;
 mod refusal;
 mod table;
 mod value;
 mod walk;
 
+pub use command::Command;
 pub use fault::{WordFault, WordRefused};
+pub use places::Places;

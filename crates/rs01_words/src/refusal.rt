@@ -4,10 +4,11 @@ ghost use Rattle.std.specs.List.{find};
 ghost use Rattle.std.specs.Str.{bytes_eq};
 ghost use Rattle.rs01_words.specs.Table.{option_of};
 ghost use Rattle.rs01_words.specs.Line.{word_at, kind_at, given_places, before_at};
-ghost use Rattle.rs01_words.specs.Refusal.{option_fault, value_fault, fault_at, first_fault, missing_word, plain_number, too_many_lost, must_differ, clash, repeats_name, same_name, refusal_of};
+ghost use Rattle.rs01_words.specs.Refusal.{option_fault, value_fault, fault_at, first_fault, missing_word, too_many_lost, must_differ, clash, repeats_name, same_name, refusal_of};
 
 use crate::fault::{WordFault, WordRefused};
-use crate::table::{Kind, Verb, needed_of, option_of, plain_kinds};
+use crate::plain::{plain_at, plain_number};
+use crate::table::{Kind, LOST, SECTORS, Verb, needed_of, option_of};
 use crate::value::value_of;
 use crate::walk::{Before, given_place, is_option, kind_at, next, plain_place, start, word_at};
 
@@ -87,32 +88,18 @@ fn missing_word(verb: Verb, words: &[String]) -> Option<WordRefused>
     None
 }
 
-/// The number that a plain word stands for, by its number among the plain words. 0 where there is
-/// no such number.
-#[tactic(auto, unfolding(crate::specs::Refusal::plain_number))]
-pub fn plain_number(verb: Verb, words: &[String], number: usize) -> u64
-    ensures { result ≡ plain_number verb (map string_bytes words.now) number }
-{
-    match plain_place(verb, words, number) {
-        None => 0,
-        Some(place) => match plain_kinds(verb).get(number).copied() {
-            None => 0,
-            Some(kind) => value_of(kind, word_at(words, place)).unwrap_or(0),
-        },
-    }
-}
-
 // `demo` is to lose more sectors than it makes.
+#[tactic(auto, unfolding(crate::specs::Refusal::too_many_lost))]
 fn too_many_lost(verb: Verb, words: &[String]) -> Option<WordRefused>
+    requires { 0 < length words.now }
     ensures { result ≡ too_many_lost verb (map string_bytes words.now) }
 {
     match verb {
         Verb::Demo => {
-            if plain_number(verb, words, 1) < plain_number(verb, words, 3) {
-                let place = plain_place(verb, words, 3)?;
+            if plain_number(verb, words, 1, SECTORS) < plain_number(verb, words, 3, LOST) {
                 Some(WordRefused {
                     fault: WordFault::OutOfRange,
-                    place,
+                    place: plain_at(verb, words, 3),
                 })
             } else {
                 None
@@ -189,6 +176,7 @@ fn same_name(verb: Verb, words: &[String]) -> Option<WordRefused>
 /// What is wrong with the words of a command: the first fault from left to right, then a missing
 /// word, then the comparison of `demo`, then equal names.
 pub fn refusal_of(verb: Verb, words: &[String]) -> Option<WordRefused>
+    requires { 0 < length words.now }
     ensures { result ≡ refusal_of verb (map string_bytes words.now) }
 {
     if let Some(refused) = first_fault(verb, words) {

@@ -46,7 +46,26 @@ pub const NORMAL: u64 = 32;
 /// The parity bytes of the preset `high`.
 pub const HIGH: u64 = 64;
 
-const PARITY_BYTES: Kind = Kind::Parity { low: 8, high: 100 };
+/// The parity bytes of a codeword.
+pub const PARITY_BYTES: Kind = Kind::Parity { low: 8, high: 100 };
+
+/// The number from which `demo` makes its image.
+pub const SEED: Kind = Kind::Number {
+    low: 0,
+    high: u64::MAX,
+};
+
+/// How many sectors `demo` makes.
+pub const SECTORS: Kind = Kind::Number {
+    low: 1,
+    high: 65_536,
+};
+
+/// How many sectors `demo` loses.
+pub const LOST: Kind = Kind::Number {
+    low: 0,
+    high: 65_536,
+};
 
 /// `--parity`: the parity bytes of a codeword.
 pub const PARITY: OptionRule = OptionRule {
@@ -98,12 +117,7 @@ pub static ECC_ALONE: [Kind; 1] = [Kind::Name];
 
 /// The plain words of `demo`: the number of the image, its sectors, the parity bytes, and how many
 /// sectors are lost.
-pub static DEMO_NUMBERS: [Kind; 4] = [
-    Kind::Number { low: 0, high: u64::MAX },
-    Kind::Number { low: 1, high: 65_536 },
-    PARITY_BYTES,
-    Kind::Number { low: 0, high: 65_536 },
-];
+pub static DEMO_NUMBERS: [Kind; 4] = [SEED, SECTORS, PARITY_BYTES, LOST];
 
 /// The command that a word names.
 #[tactic(auto, unfolding(crate::specs::Table::verb_of))]

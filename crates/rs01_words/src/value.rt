@@ -1,7 +1,7 @@
 //! The number that one word stands for.
-ghost use Rattle.std.specs.Prelude.{◌≡◌, ◌+◌, ◌-◌, ◌*◌};
+ghost use Rattle.std.specs.Prelude.{◌≡◌, ◌≤◌, ◌+◌, ◌-◌, ◌*◌, IsTrue, IfOk};
 ghost use Rattle.std.specs.List.{list_all};
-ghost use Rattle.rs01_words.specs.Value.{is_digit, is_decimal, number_of, number_within, up_to, value_of};
+ghost use Rattle.rs01_words.specs.Value.{is_digit, is_decimal, number_of, number_within, up_to, value_of, kind_low, kind_high, is_sound, number_or};
 
 use crate::fault::WordFault;
 use crate::table::{HIGH, Kind, NORMAL};
@@ -77,5 +77,20 @@ pub fn value_of(kind: Kind, word: &str) -> Result<u64, WordFault>
                 number_within(word, low, high)
             }
         }
+    }
+}
+
+/// The number that a word of this kind stands for, and `other` for a word that stands for none.
+pub fn number_or(kind: Kind, other: u64, word: &str) -> u64
+    requires sound { IsTrue (is_sound kind) }
+    requires low { kind_low kind ≤ other }
+    requires high { other ≤ kind_high kind }
+    ensures value { result ≡ number_or kind other word.now }
+    ensures low { kind_low kind ≤ result }
+    ensures high { result ≤ kind_high kind }
+{
+    match value_of(kind, word) {
+        Ok(number) => number,
+        Err(_) => other,
     }
 }

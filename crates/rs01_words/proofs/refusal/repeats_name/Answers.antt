@@ -1,6 +1,6 @@
 use Rattle.std.proofs.Common.{◌≡◌, ap, arith, sym, ◌∙◌, ℕ, ◌+◌, ◌<◌, ◌≤◌, length, map, string_bytes, true, false}
 use Rattle.std.proofs.lemmas.List.{length-map}
-use Rattle.rs01_words.proofs.Places.{find-more}
+use Rattle.rs01_words.proofs.PlaceLists.{find-more}
 use Rattle.rs01_words.proofs.Refusals.{first_fault-Some, first_fault-None, has_fault-no, same_name-Some, same_name-None, repeats_name-true, repeats_name-false, missing_word-Some, missing_word-None, missing_word-zero, clash-is}
 use Rattle.rs01_words.proofs.refusal.repeats_name.Goals as goal
 
