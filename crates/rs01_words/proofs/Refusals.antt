@@ -75,11 +75,15 @@ missing_word-Some verb words needed n place is long pos there none =
     ap (λ n. Some (refused Missing n)) long ∙ sym (ap (λ b. cond b (Some (refused Missing (length words))) None) test)
 
 -- no plain word is missing
+pub missing_word-enough : (verb : Verb) (words : List (List ℕ)) (needed n : ℕ) (place : Option ℕ) → needed ≡ needed_of verb → n ≡ length words → place ≡ slice_get (plain_places verb words n) (needed - 1) → is_some place ≡ true → needed_of verb ≤ length (plain_places verb words (length words))
+missing_word-enough verb words needed n place is long there some =
+    let within = some_within (plain_places verb words n) (needed - 1) (sym (ap is_some there) ∙ some) in
+    rw (← long) (omega arith)
+
 pub missing_word-None : (verb : Verb) (words : List (List ℕ)) (needed n : ℕ) (place : Option ℕ) → needed ≡ needed_of verb → n ≡ length words → place ≡ slice_get (plain_places verb words n) (needed - 1) → is_some place ≡ true → None ≡ missing_word verb words
 unfolding missing_word
 missing_word-None verb words needed n place is long there some =
-    let within = some_within (plain_places verb words n) (needed - 1) (sym (ap is_some there) ∙ some) in
-    let enough : needed_of verb ≤ length (plain_places verb words (length words)) = rw (← long) (omega arith) in
+    let enough = missing_word-enough verb words needed n place is long there some in
     let test : nat_lt (length (plain_places verb words (length words))) (needed_of verb) ≡ false = grind (arith, nat_tests) in
     sym (ap (λ b. cond b (Some (refused Missing (length words))) None) test)
 

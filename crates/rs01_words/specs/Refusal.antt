@@ -1,5 +1,5 @@
 -- What is wrong with the words of a command.
-use Rattle.std.specs.Prelude.{ℕ, ◌+◌, List, Bool, true, false, not, ◌&&◌, ◌==◌, nat_lt, Option, Some, None, is_some, option_map, unwrap_or, length, if◌then◌else◌}
+use Rattle.std.specs.Prelude.{◌≡◌, ◌≤◌, ℕ, ◌+◌, List, Bool, true, false, not, ◌&&◌, ◌==◌, nat_lt, Option, Some, None, is_some, option_map, unwrap_or, length, if◌then◌else◌}
 use Rattle.std.specs.List.{find, slice_get}
 use Rattle.std.specs.Option.{option_and_then, option_or}
 use Rattle.std.specs.Result.{result_err}
@@ -100,3 +100,11 @@ same_name verb words = option_map (λ i. refused SameName i) (find (repeats_name
 abbrev pub refusal_of : Verb → List (List ℕ) → Option WordRefused
 refusal_of verb words =
     option_or (first_fault verb words) (option_or (missing_word verb words) (option_or (too_many_lost verb words) (same_name verb words)))
+
+-- what is known of words with nothing wrong: no word has a fault, no plain word is missing, and no name
+-- repeats an earlier one that it must differ from
+pub record IsClear (verb : Verb) (words : List (List ℕ)) : Type 0 where
+  pub faultless : find (has_fault verb words) (places_below (length words)) ≡ None
+  pub complete : needed_of verb ≤ length (plain_places verb words (length words))
+  pub fits : too_many_lost verb words ≡ None
+  pub distinct : find (repeats_name verb words) (places_below (length words)) ≡ None

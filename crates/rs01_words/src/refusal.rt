@@ -1,10 +1,10 @@
 //! What is wrong with the words of a command.
-ghost use Rattle.std.specs.Prelude.{◌≡◌, ◌+◌, ◌<◌, ◌==◌, ◌&&◌, length, map, string_bytes, is_some};
+ghost use Rattle.std.specs.Prelude.{◌≡◌, ◌+◌, ◌<◌, ◌≤◌, ◌==◌, ◌&&◌, length, map, string_bytes, IfNone};
 ghost use Rattle.std.specs.List.{find};
 ghost use Rattle.std.specs.Str.{bytes_eq};
-ghost use Rattle.rs01_words.specs.Table.{option_of};
-ghost use Rattle.rs01_words.specs.Line.{word_at, kind_at, given_places, before_at};
-ghost use Rattle.rs01_words.specs.Refusal.{option_fault, value_fault, fault_at, first_fault, missing_word, too_many_lost, must_differ, clash, repeats_name, same_name, refusal_of};
+ghost use Rattle.rs01_words.specs.Table.{option_of, needed_of};
+ghost use Rattle.rs01_words.specs.Line.{word_at, kind_at, given_places, plain_places, places_below, before_at};
+ghost use Rattle.rs01_words.specs.Refusal.{option_fault, value_fault, fault_at, has_fault, first_fault, missing_word, too_many_lost, must_differ, clash, repeats_name, same_name, refusal_of, IsClear};
 
 use crate::fault::{WordFault, WordRefused};
 use crate::plain::{plain_at, plain_number};
@@ -62,7 +62,9 @@ fn fault_at(verb: Verb, words: &[String], place: usize, before: Before) -> Optio
 
 // The first fault from left to right.
 fn first_fault(verb: Verb, words: &[String]) -> Option<WordRefused>
-    ensures { result ≡ first_fault verb (map string_bytes words.now) }
+    ensures value { result ≡ first_fault verb (map string_bytes words.now) }
+    ensures clear { IfNone result
+        (find (has_fault verb (map string_bytes words.now)) (places_below (length (map string_bytes words.now))) ≡ None) }
 {
     let mut before = start(verb, words);
     for place in 1..words.len() {
@@ -76,7 +78,9 @@ fn first_fault(verb: Verb, words: &[String]) -> Option<WordRefused>
 
 // A plain word that the command needs isn't there.
 fn missing_word(verb: Verb, words: &[String]) -> Option<WordRefused>
-    ensures { result ≡ missing_word verb (map string_bytes words.now) }
+    ensures value { result ≡ missing_word verb (map string_bytes words.now) }
+    ensures clear { IfNone result
+        (needed_of verb ≤ length (plain_places verb (map string_bytes words.now) (length (map string_bytes words.now)))) }
 {
     let needed = needed_of(verb);
     if needed > 0 && plain_place(verb, words, needed - 1).is_none() {
@@ -158,7 +162,9 @@ fn repeats_name(verb: Verb, words: &[String], place: usize, kind: Option<Kind>) 
 
 // The first name that equals an earlier one that it must differ from.
 fn same_name(verb: Verb, words: &[String]) -> Option<WordRefused>
-    ensures { result ≡ same_name verb (map string_bytes words.now) }
+    ensures value { result ≡ same_name verb (map string_bytes words.now) }
+    ensures clear { IfNone result
+        (find (repeats_name verb (map string_bytes words.now)) (places_below (length (map string_bytes words.now))) ≡ None) }
 {
     let mut before = start(verb, words);
     for place in 1..words.len() {
@@ -177,7 +183,8 @@ fn same_name(verb: Verb, words: &[String]) -> Option<WordRefused>
 /// word, then the comparison of `demo`, then equal names.
 pub fn refusal_of(verb: Verb, words: &[String]) -> Option<WordRefused>
     requires { 0 < length words.now }
-    ensures { result ≡ refusal_of verb (map string_bytes words.now) }
+    ensures value { result ≡ refusal_of verb (map string_bytes words.now) }
+    ensures clear { IfNone result (IsClear verb (map string_bytes words.now)) }
 {
     if let Some(refused) = first_fault(verb, words) {
         return Some(refused);

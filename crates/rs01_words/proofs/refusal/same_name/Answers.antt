@@ -1,11 +1,11 @@
 use Rattle.std.proofs.Common.{◌≡◌, ap, arith, sym, ◌∙◌, ℕ, ◌+◌, ◌<◌, ◌≤◌, length, map, string_bytes, true, false}
 use Rattle.std.proofs.lemmas.List.{length-map}
-use Rattle.rs01_words.proofs.PlaceLists.{find-more}
+use Rattle.rs01_words.proofs.PlaceLists.{find-more, find_end}
 use Rattle.rs01_words.proofs.Refusals.{first_fault-Some, first_fault-None, has_fault-no, same_name-Some, same_name-None, repeats_name-true, repeats_name-false, missing_word-Some, missing_word-None, missing_word-zero, clash-is}
 use Rattle.rs01_words.proofs.refusal.same_name.Goals as goal
 
-pub returns-then-repeats_name : goal.returns-then-repeats_name
-returns-then-repeats_name c =
+pub returns-then-repeats_name-clause-value : goal.returns-then-repeats_name-clause-value
+returns-then-repeats_name-clause-value c =
     same_name-Some _ _ _ (omega arith) (omega (arith, length-map c.args.words.now string_bytes, c.loop-place-test.true)) (sym c.repeats_name.ensures ∙ c.if-repeats_name.true) c.loop-place.invariant.passed
 
 pub loop-place-preserved : goal.loop-place-preserved
@@ -17,4 +17,7 @@ loop-place-preserved c = record {
 pub returns : goal.returns
 returns c =
     let long = length-map c.args.words.now string_bytes in
-    same_name-None _ _ c.loop-place.place (omega arith) (λ some. omega (arith, c.loop-place.auto.place-end)) c.loop-place.invariant.passed
+    record {
+      value = same_name-None _ _ c.loop-place.place (omega arith) (λ some. omega (arith, c.loop-place.auto.place-end)) c.loop-place.invariant.passed;
+      clear = find_end _ c.loop-place.place _ (omega arith) (λ some. omega (arith, c.loop-place.auto.place-end)) c.loop-place.invariant.passed
+    }
