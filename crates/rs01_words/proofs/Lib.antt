@@ -2,3 +2,5 @@ mod Numbers
 mod PlaceLists
 mod Steps
 mod Refusals
+mod Drives
+mod Answering

@@ -1,18 +1,17 @@
 -- The command that the words ask for, or what is wrong with them.
-use Rattle.std.specs.Prelude.{ℕ, ◌+◌, List, [], ◌∷◌, Bool, Option, Some, None, Result, Ok, Err, is_some, codes, map, length}
+use Rattle.std.specs.Prelude.{◌<◌, ◌≤◌, ◌^◌, ℕ, ◌+◌, List, [], ◌∷◌, Bool, Option, Some, None, Result, Ok, Err, IfSome, is_some, codes, map, length}
 use Rattle.std.specs.List.{slice_get}
 use Rattle.std.specs.Option.{option_and_then}
 use Rattle.rs01_words.specs.declared.command.Command.{Command}
 use Rattle.rs01_words.specs.declared.command.Command.TheVariants as command
 use Rattle.rs01_words.specs.declared.fault.WordFault.TheVariants.{NoCommand, UnknownCommand}
 use Rattle.rs01_words.specs.declared.fault.WordRefused.{WordRefused}
-use Rattle.rs01_words.specs.declared.table.Kind.{Kind}
 use Rattle.rs01_words.specs.declared.table.Verb.{Verb}
 use Rattle.rs01_words.specs.declared.table.Verb.TheVariants.{Create, Fix, Verify, Scan, Read, Demo}
 use Rattle.rs01_words.specs.declared.table.OptionRule.{OptionRule}
 use Rattle.rs01_words.specs.declared.table.TheConstants.{PARITY, WORKERS, JUMP, TRIES, SEED, SECTORS, PARITY_BYTES, LOST}
 use Rattle.rs01_words.specs.Table.{verb_of}
-use Rattle.rs01_words.specs.Value.{number_or}
+use Rattle.rs01_words.specs.Value.{given_number}
 use Rattle.rs01_words.specs.Line.{plain_places, given_places}
 use Rattle.rs01_words.specs.Refusal.{refused, plain_at, plain_number, refusal_of}
 
@@ -25,14 +24,6 @@ abbrev pub has_option : Verb → List (List ℕ) → List ℕ → Bool
 has_option verb words option = is_some (slice_get (given_places verb words option (length words)) 0)
 
 -- the number of an option: that of its value where it is given, else its default
-abbrev pub given_number : OptionRule → Option (List ℕ) → ℕ
-given_number rule None = rule.default
-given_number rule (Some word) = number_or_default rule.value rule.default word
-  where
-    number_or_default : Option Kind → ℕ → List ℕ → ℕ
-    number_or_default None other word = other
-    number_or_default (Some kind) other word = number_or kind other word
-
 unfoldable pub option_number : Verb → List (List ℕ) → List ℕ → OptionRule → ℕ
 option_number verb words option rule =
     given_number rule (option_and_then (λ i. slice_get words (i + 1)) (slice_get (given_places verb words option (length words)) 0))
@@ -72,3 +63,23 @@ answer_by (Some verb) words = answer_of verb words (refusal_of verb words)
 unfoldable pub words_of : List (List ℕ) → Result Command WordRefused
 words_of [] = Err (refused NoCommand 0)
 words_of (word ∷ rest) = answer_by (verb_of word) (word ∷ rest)
+
+-- places of words of which there are n
+abbrev pub AreWithin : ℕ → List ℕ → Type 0
+AreWithin n places = (i : ℕ) → IfSome (slice_get places i) (λ place. place < n)
+
+-- a number in a range
+abbrev pub IsFrom : ℕ → ℕ → ℕ → Type 0
+IsFrom low high n = (low ≤ n) × (n ≤ high)
+
+-- each name is the place of one of n words, and each number is in its range
+abbrev pub IsWithin : ℕ → Command → Type 0
+IsWithin n (command.Create image ecc parity workers) = (image < n) × (ecc < n) × IsFrom 8 100 parity × IsFrom 1 32 workers
+IsWithin n (command.Fix image ecc workers cut) = (image < n) × (ecc < n) × IsFrom 1 32 workers
+IsWithin n (command.Verify image ecc) = (image < n) × (ecc < n)
+IsWithin n (command.Scan ecc drives) = IfSome ecc (λ place. place < n) × AreWithin n drives × (length drives ≤ 16)
+IsWithin n (command.Read image ecc drives adaptive jump tries workers) =
+    (image < n) × IfSome ecc (λ place. place < n) × AreWithin n drives × (length drives ≤ 16)
+    × IsFrom 1 1048576 jump × IsFrom 1 16 tries × IsFrom 1 32 workers
+IsWithin n (command.Demo number sectors parity lost) =
+    (number < 2 ^ 64) × IsFrom 1 65536 sectors × IsFrom 8 100 parity × (lost ≤ sectors)

@@ -5,6 +5,7 @@ use Rattle.std.specs.Result.{result_unwrap_or}
 use Rattle.std.specs.Str.{bytes_eq}
 use Rattle.rs01_words.specs.declared.table.Kind.{Kind}
 use Rattle.rs01_words.specs.declared.table.Kind.TheVariants.{Name, Drive, Number, Parity}
+use Rattle.rs01_words.specs.declared.table.OptionRule.{OptionRule}
 use Rattle.rs01_words.specs.declared.table.TheConstants.{NORMAL, HIGH}
 use Rattle.rs01_words.specs.declared.fault.WordFault.{WordFault}
 use Rattle.rs01_words.specs.declared.fault.WordFault.TheVariants.{BadNumber, OutOfRange}
@@ -63,3 +64,30 @@ is_sound (Parity low high) = nat_le low NORMAL && nat_le HIGH high
 -- the number that a word stands for, and the one given for a word that stands for none
 abbrev pub number_or : Kind → ℕ → List ℕ → ℕ
 number_or kind other word = result_unwrap_or (value_of kind word) other
+
+-- the same for the value of an option, where it takes one
+abbrev pub value_low : Option Kind → ℕ
+value_low None = 0
+value_low (Some kind) = kind_low kind
+
+abbrev pub value_high : Option Kind → ℕ
+value_high None = 0
+value_high (Some kind) = kind_high kind
+
+-- whether an option's default lies in its range
+abbrev pub is_sound_rule : OptionRule → Bool
+is_sound_rule rule =
+    is_sound_value rule.value && (nat_le (value_low rule.value) rule.default && nat_le rule.default (value_high rule.value))
+  where
+    is_sound_value : Option Kind → Bool
+    is_sound_value None = true
+    is_sound_value (Some kind) = is_sound kind
+
+-- the number of an option: that of its value where it is given, else its default
+abbrev pub given_number : OptionRule → Option (List ℕ) → ℕ
+given_number rule None = rule.default
+given_number rule (Some word) = number_or_default rule.value rule.default word
+  where
+    number_or_default : Option Kind → ℕ → List ℕ → ℕ
+    number_or_default None other word = other
+    number_or_default (Some kind) other word = number_or kind other word

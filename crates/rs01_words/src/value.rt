@@ -1,10 +1,10 @@
 //! The number that one word stands for.
-ghost use Rattle.std.specs.Prelude.{◌≡◌, ◌≤◌, ◌+◌, ◌-◌, ◌*◌, IsTrue, IfOk};
+ghost use Rattle.std.specs.Prelude.{◌≡◌, ◌≤◌, ◌+◌, ◌-◌, ◌*◌, IsTrue, option_map};
 ghost use Rattle.std.specs.List.{list_all};
-ghost use Rattle.rs01_words.specs.Value.{is_digit, is_decimal, number_of, number_within, up_to, value_of, kind_low, kind_high, is_sound, number_or};
+ghost use Rattle.rs01_words.specs.Value.{is_digit, is_decimal, number_of, number_within, up_to, value_of, kind_low, kind_high, value_low, value_high, is_sound, is_sound_rule, number_or, given_number};
 
 use crate::fault::WordFault;
-use crate::table::{HIGH, Kind, NORMAL};
+use crate::table::{HIGH, Kind, NORMAL, OptionRule};
 
 // Whether all bytes are decimal digits.
 fn all_digits(bytes: &[u8]) -> bool
@@ -92,5 +92,21 @@ pub fn number_or(kind: Kind, other: u64, word: &str) -> u64
     match value_of(kind, word) {
         Ok(number) => number,
         Err(_) => other,
+    }
+}
+
+/// The number of an option: that of its value where it is given, else its default.
+pub fn given_number(rule: OptionRule, word: Option<&str>) -> u64
+    requires { IsTrue (is_sound_rule rule) }
+    ensures value { result ≡ given_number rule (option_map (λ x. x.now) word.entry) }
+    ensures low { value_low rule.value ≤ result }
+    ensures high { result ≤ value_high rule.value }
+{
+    match word {
+        None => rule.default,
+        Some(word) => match rule.value {
+            None => rule.default,
+            Some(kind) => number_or(kind, rule.default, word),
+        },
     }
 }
