@@ -2,5 +2,6 @@ mod Numbers
 mod PlaceLists
 mod Steps
 mod Refusals
-mod Drives
+mod DriveFaults
 mod Answering
+mod Names

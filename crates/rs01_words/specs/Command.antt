@@ -1,5 +1,5 @@
 -- The command that the words ask for, or what is wrong with them.
-use Rattle.std.specs.Prelude.{◌<◌, ◌≤◌, ◌^◌, ℕ, ◌+◌, List, [], ◌∷◌, Bool, Option, Some, None, Result, Ok, Err, IfSome, is_some, codes, map, length}
+use Rattle.std.specs.Prelude.{◌≢◌, ◌<◌, ◌≤◌, ◌^◌, ℕ, ◌+◌, List, [], ◌∷◌, Bool, Option, Some, None, Result, Ok, Err, IfSome, is_some, codes, map, length}
 use Rattle.std.specs.List.{slice_get}
 use Rattle.std.specs.Option.{option_and_then}
 use Rattle.rs01_words.specs.declared.command.Command.{Command}
@@ -12,7 +12,7 @@ use Rattle.rs01_words.specs.declared.table.OptionRule.{OptionRule}
 use Rattle.rs01_words.specs.declared.table.TheConstants.{PARITY, WORKERS, JUMP, TRIES, SEED, SECTORS, PARITY_BYTES, LOST}
 use Rattle.rs01_words.specs.Table.{verb_of}
 use Rattle.rs01_words.specs.Value.{given_number}
-use Rattle.rs01_words.specs.Line.{plain_places, given_places}
+use Rattle.rs01_words.specs.Line.{word_at, plain_places, given_places}
 use Rattle.rs01_words.specs.Refusal.{refused, plain_at, plain_number, refusal_of}
 
 -- the place of a plain word that may be left out
@@ -83,3 +83,29 @@ IsWithin n (command.Read image ecc drives adaptive jump tries workers) =
     × IsFrom 1 1048576 jump × IsFrom 1 16 tries × IsFrom 1 32 workers
 IsWithin n (command.Demo number sectors parity lost) =
     (number < 2 ^ 64) × IsFrom 1 65536 sectors × IsFrom 8 100 parity × (lost ≤ sectors)
+
+-- the image and its error correction file have different names
+abbrev pub NamesDiffer : List (List ℕ) → Command → Type 0
+NamesDiffer words (command.Create image ecc parity workers) = word_at words image ≢ word_at words ecc
+NamesDiffer words (command.Fix image ecc workers cut) = word_at words image ≢ word_at words ecc
+NamesDiffer words (command.Verify image ecc) = word_at words image ≢ word_at words ecc
+NamesDiffer words (command.Scan ecc drives) = Unit {0}
+NamesDiffer words (command.Read image ecc drives adaptive jump tries workers) = IfSome ecc (λ file. word_at words image ≢ word_at words file)
+NamesDiffer words (command.Demo number sectors parity lost) = Unit {0}
+
+-- the places of the drives that a command takes
+abbrev pub drives_of : Command → List ℕ
+drives_of (command.Create image ecc parity workers) = []
+drives_of (command.Fix image ecc workers cut) = []
+drives_of (command.Verify image ecc) = []
+drives_of (command.Scan ecc drives) = drives
+drives_of (command.Read image ecc drives adaptive jump tries workers) = drives
+drives_of (command.Demo number sectors parity lost) = []
+
+-- the names of the drives in the words, in order, and none where the words ask for nothing
+abbrev pub names_in : List (List ℕ) → Result Command WordRefused → List (List ℕ)
+names_in words (Ok asked) = map (word_at words) (drives_of asked)
+names_in words (Err refusal) = []
+
+unfoldable pub drive_names_of : List (List ℕ) → List (List ℕ)
+drive_names_of words = names_in words (words_of words)

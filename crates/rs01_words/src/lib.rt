@@ -2,6 +2,7 @@
 #![tactic(auto)]
 
 mod command;
+mod drives;
 mod fault;
 mod places;
 mod plain;
@@ -12,6 +13,7 @@ mod value;
 mod walk;
 
 pub use command::Command;
+pub use drives::drive_names;
 pub use fault::{WordFault, WordRefused};
 pub use places::Places;
 pub use read::read_words;

@@ -5,7 +5,7 @@ ghost use Rattle.std.specs.Option.{option_and_then};
 ghost use Rattle.rs01_words.specs.Line.{given_places};
 ghost use Rattle.rs01_words.specs.Value.{value_low, value_high, is_sound_rule};
 ghost use Rattle.rs01_words.specs.Refusal.{IsClear};
-ghost use Rattle.rs01_words.specs.Command.{has_option, option_number, drive_places, command_of, words_of, AreWithin, IsWithin};
+ghost use Rattle.rs01_words.specs.Command.{has_option, option_number, drive_places, command_of, words_of, AreWithin, IsWithin, NamesDiffer};
 
 use crate::command::Command;
 use crate::fault::{WordFault, WordRefused};
@@ -154,6 +154,7 @@ fn demo(words: &[String]) -> Command
 pub fn read_words(words: &[String]) -> Result<Command, WordRefused>
     ensures answer { result ≡ words_of (map string_bytes words.now) }
     ensures within { IfOk result (IsWithin (length words.now)) }
+    ensures names { IfOk result (NamesDiffer (map string_bytes words.now)) }
 {
     if words.is_empty() {
         return Err(WordRefused {

@@ -5,7 +5,7 @@ use Rattle.std.proofs.lemmas.Bool.Decides.{nat_tests}
 use Rattle.rs01_words.specs.Line.{is_given, given_places}
 use Rattle.rs01_words.specs.Refusal.{has_fault}
 use Rattle.rs01_words.specs.Command.{AreWithin, drive_places}
-use Rattle.rs01_words.proofs.Drives.{find_none_at, no_fault, drive_at, given_places-push, given_places-keep, given_places-nil, AreWithin-nil, AreWithin-push}
+use Rattle.rs01_words.proofs.DriveFaults.{find_none_at, no_fault, drive_at, given_places-push, given_places-keep, given_places-nil, AreWithin-nil, AreWithin-push}
 use Rattle.rs01_words.proofs.read.drives.Goals as goal
 use Rattle.rs01_words.proofs.read.drives.Goals.{then-is_given, else-is_given}
 
