@@ -17,3 +17,6 @@ pub use drives::drive_names;
 pub use fault::{WordFault, WordRefused};
 pub use places::Places;
 pub use read::read_words;
+
+#[cfg(test)]
+mod tests;
