@@ -1,5 +1,5 @@
 -- The answer to the words, by the first of them.
-use Rattle.std.proofs.Common.{◌≡◌, ℕ, zero, suc, [], ◌∷◌, ◌+◌, ◌<◌, ◌≤◌, Bool, true, false, cond, List, length, sym, ◌∙◌, ap, refl, arith, Some, None, Option, Err}
+use Rattle.std.proofs.Common.{◌≡◌, ℕ, [], ◌∷◌, ◌≤◌, Bool, true, false, cond, List, length, ap, refl, arith, Some, None, Err}
 use Rattle.std.specs.Prelude.{nat_lt, ◌==◌}
 use Rattle.std.proofs.lemmas.Bool.Decides.{nat_tests}
 use Rattle.rs01_words.specs.declared.fault.WordFault.TheVariants.{NoCommand, OutOfRange}

@@ -1,7 +1,7 @@
 -- The drives of words with nothing wrong: not too many, and each has its name.
-use Rattle.std.proofs.Common.{◌≡◌, ◌⊎◌, inl, inr, ℕ, zero, suc, [], ◌∷◌, ◌++◌, ◌+◌, ◌-◌, ◌<◌, ◌≤◌, Bool, true, false, not, ◌&&◌, cond, subst, List, length, map, sym, ◌∙◌, ap, refl, arith, Some, None, Option, eqb}
-use Rattle.std.specs.Prelude.{codes, is_some, nat_lt, IfSome, ◌==◌}
-use Rattle.std.specs.List.{find, slice_get, range_with_len}
+use Rattle.std.proofs.Common.{◌≡◌, ◌⊎◌, inl, inr, ℕ, zero, suc, [], ◌∷◌, ◌++◌, ◌+◌, ◌-◌, ◌<◌, ◌≤◌, Bool, true, false, not, ◌&&◌, cond, List, length, sym, ◌∙◌, ap, refl, arith, Some, None, Option}
+use Rattle.std.specs.Prelude.{codes, is_some, nat_lt, ◌==◌}
+use Rattle.std.specs.List.{find, range_with_len}
 use Rattle.std.specs.Option.{option_or}
 use Rattle.std.specs.Str.{bytes_eq}
 use Rattle.std.proofs.lemmas.Bool.Decides.{nat_tests}
@@ -13,7 +13,7 @@ use Rattle.rs01_words.specs.declared.table.Verb.TheVariants.{Create, Fix, Verify
 use Rattle.rs01_words.specs.declared.table.OptionRule.{OptionRule}
 use Rattle.rs01_words.specs.declared.table.TheConstants.{DRIVE}
 use Rattle.rs01_words.specs.declared.fault.WordFault.{WordFault}
-use Rattle.rs01_words.specs.declared.fault.WordFault.TheVariants.{Repeated, NoValue, UnknownOption}
+use Rattle.rs01_words.specs.declared.fault.WordFault.TheVariants.{Repeated, NoValue}
 use Rattle.rs01_words.specs.Table.{option_of}
 use Rattle.rs01_words.specs.Line.{word_at, is_option, is_value, is_given, places_below, given_places, kind_at}
 use Rattle.rs01_words.specs.Refusal.{option_fault, value_fault, fault_at, has_fault}
@@ -29,7 +29,7 @@ pub find_none_at : (test : ℕ → Bool) (i n : ℕ) → 0 < i → i < n → fin
 find_none_at test i n pos less none =
     let rest = range_with_len (i + 1) (n - 1 - i) in
     let parts : find test (places_below n) ≡ option_or (option_or (find test (places_below i)) (find test (i ∷ []))) (find test rest) =
-        ap (find test) (places_below-parts i n pos less) ∙ find-append test (places_below i ++ i ∷ []) rest ∙ ap (λ o. option_or o (find test rest)) (find-append test (places_below i) (i ∷ [])) in
+    ap (find test) (places_below-parts i n pos less) ∙ find-append test (places_below i ++ i ∷ []) rest ∙ ap (λ o. option_or o (find test rest)) (find-append test (places_below i) (i ∷ [])) in
     let here : find test (i ∷ []) ≡ None = (neither (find test (places_below i)) (find test (i ∷ [])) (neither (option_or (find test (places_below i)) (find test (i ∷ []))) (find test rest) (sym parts ∙ none)).0).1 in
     passes_not (test i) here
   where
@@ -80,7 +80,7 @@ drive_at verb words i none given =
     let as_option : List ℕ → Option WordFault = λ w. option_fault (option_of verb w) (length (given_places verb words w i)) last in
     let as_value = value_fault (kind_at verb words i) (word_at words i) in
     let test : (not (is_value verb words i) && is_option (word_at words i)) ≡ true =
-        ap (λ b. not b && is_option (word_at words i)) parts.0 ∙ ap is_option word in
+    ap (λ b. not b && is_option (word_at words i)) parts.0 ∙ ap is_option word in
     drive_fault (option_of verb (codes "--drive")) (length (given_places verb words (codes "--drive") i)) last (drive_rule verb)
     (none ∙ ap (λ b. cond b (as_option (word_at words i)) as_value) test ∙ ap as_option word)
   where

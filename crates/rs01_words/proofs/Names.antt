@@ -1,13 +1,12 @@
 -- Where nothing is wrong with the words, the image and its error correction file have different names.
-use Rattle.std.proofs.Common.{◌≡◌, ◌≢◌, ◌⊎◌, inl, inr, ℕ, zero, suc, [], ◌∷◌, ◌++◌, ◌+◌, ◌-◌, ◌<◌, ◌≤◌, Bool, true, false, not, ◌&&◌, cond, subst, List, length, filter, sym, ◌∙◌, ap, refl, arith, Some, None, Option, get_or, map, take}
+use Rattle.std.proofs.Common.{◌≡◌, ◌≢◌, ◌⊎◌, inl, inr, ℕ, zero, suc, [], ◌∷◌, ◌++◌, ◌+◌, ◌-◌, ◌<◌, ◌≤◌, Bool, true, false, not, ◌&&◌, cond, List, length, filter, sym, ◌∙◌, ap, refl, arith, Some, None, Option, get_or, map, take}
 use Rattle.std.specs.Prelude.{is_some, IfSome, nat_lt}
-use Rattle.std.specs.List.{find, slice_get, range_with_len}
+use Rattle.std.specs.List.{find, slice_get}
 use Rattle.std.specs.Str.{bytes_eq}
 use Rattle.std.proofs.lemmas.Option.{slice_get_within, slice_get-get_or, get_or_from_slice_get}
 use Rattle.std.proofs.lemmas.List.{map_more}
 use Rattle.std.proofs.lemmas.Bool.{ltb-true, ltb-false}
 use Rattle.std.proofs.lemmas.Slice.Eq.{bytes_eq-Decides}
-use Rattle.rs01_words.specs.declared.table.Kind.{Kind}
 use Rattle.rs01_words.specs.declared.table.Kind.TheVariants.{Name}
 use Rattle.rs01_words.specs.declared.table.Verb.{Verb}
 use Rattle.rs01_words.specs.declared.table.Verb.TheVariants.{Create, Fix, Verify, Scan, Read, Demo}
@@ -43,17 +42,18 @@ found test (suc (suc m)) k i is =
     let pos : 0 < suc m = omega arith in
     let e : suc m + 1 ≡ suc (suc m) = omega arith in
     let last : slice_get (filter test (places_below (suc m)) ++ cond (test (suc m)) (suc m ∷ []) []) k ≡ Some i =
-        ap (λ xs. slice_get xs k) (sym (filter-more test (suc m) pos)) ∙ ap (λ n. slice_get (filter test (places_below n)) k) e ∙ is in
+    ap (λ xs. slice_get xs k) (sym (filter-more test (suc m) pos)) ∙ ap (λ n. slice_get (filter test (places_below n)) k) e ∙ is in
     elim (last_or_before (filter test (places_below (suc m))) (test (suc m)) (suc m) k i last) [
-        inl before ↦
+      | inl before ↦
           let f = found test (suc m) k i before in
           record { pos = f.pos; less = omega (arith, f.less); pass = f.pass; number = f.number }
       | inr here ↦ record {
-          pos = omega (arith, here.2);
-          less = omega (arith, here.2);
-          pass = ap test here.2 ∙ here.0;
-          number = ap (λ n. length (filter test (places_below n))) here.2 ∙ sym here.1
-        } ]
+        pos = omega (arith, here.2);
+        less = omega (arith, here.2);
+        pass = ap test here.2 ∙ here.0;
+        number = ap (λ n. length (filter test (places_below n))) here.2 ∙ sym here.1;
+      }
+    ]
 
 -- the first that passes a test stands before the second
 in_order : (test : ℕ → Bool) (n i j : ℕ) → IsFound test n 0 i → IsFound test n 1 j → i < j
@@ -68,6 +68,7 @@ in_order test n i j first second = go (nat_lt i j) refl
         let same : i ≡ j = omega (arith, ltb-false i j e, ltb-false j i after) in
         let count : length (filter test (places_below i)) ≡ length (filter test (places_below j)) = ap (λ n. length (filter test (places_below n))) same in
         absurd (omega (arith, first.number, second.number))
+
     go : (b : Bool) → nat_lt i j ≡ b → i < j
     go true e = ltb-true i j e
     go false e = not_after (nat_lt j i) refl e
@@ -100,10 +101,10 @@ differ verb words clear kinds i j first second same =
     let kind_two : kind_at verb words j ≡ Some Name = kind_of_plain verb words j 1 two.pass two.number ∙ ap (λ ks. slice_get ks 1) kinds in
     let unrepeated : repeats_name verb words j ≡ false = find_none_at (repeats_name verb words) j (length words) two.pos two.less clear.distinct in
     let no_clash : clash verb words j i ≡ false =
-        find_none_at (clash verb words j) i j one.pos (in_order (is_plain verb words) (length words) i j one two) (none_from (find (clash verb words j) (places_below j)) unrepeated) in
+    find_none_at (clash verb words j) i j one.pos (in_order (is_plain verb words) (length words) i j one two) (none_from (find (clash verb words j) (places_below j)) unrepeated) in
     let text = bytes_eq (word_at words j) (word_at words i) in
     let unequal : text ≡ false =
-        sym (ap (λ kind. must_differ kind (kind_at verb words i) && text) kind_two ∙ ap (λ kind. must_differ (Some Name) kind && text) kind_one) ∙ no_clash in
+    sym (ap (λ kind. must_differ kind (kind_at verb words i) && text) kind_two ∙ ap (λ kind. must_differ (Some Name) kind && text) kind_one) ∙ no_clash in
     let equal : text ≡ true = (bytes_eq-Decides (word_at words j) (word_at words i)).1 (sym same) in
     cc
 

@@ -1,5 +1,5 @@
 -- Lists of places, one place more at a time.
-use Rattle.std.proofs.Common.{◌≡◌, ℕ, zero, suc, ◌+◌, ◌-◌, ◌<◌, ◌≤◌, Bool, true, false, cond, subst, List, [], ◌∷◌, ◌++◌, length, filter, sym, ◌∙◌, ap, refl, arith, Some, None, length-append}
+use Rattle.std.proofs.Common.{◌≡◌, ℕ, zero, suc, ◌+◌, ◌-◌, ◌<◌, ◌≤◌, Bool, true, false, cond, subst, List, [], ◌∷◌, ◌++◌, length, filter, ◌∙◌, ap, refl, arith, Some, None, length-append}
 use Rattle.std.specs.List.{range_with_len, slice_get, find}
 use Rattle.std.specs.Option.{option_or}
 use Rattle.std.proofs.lemmas.List.Elements.{filter-append}
@@ -62,7 +62,7 @@ pub found_at : (test : ℕ → Bool) (i n : ℕ) → 0 < i → i < n → test i 
 found_at test i n pos less pass =
     let rest = range_with_len (i + 1) (n - 1 - i) in
     let parts : filter test (places_below n) ≡ (filter test (places_below i) ++ filter test (i ∷ [])) ++ filter test rest =
-        ap (filter test) (places_below-parts i n pos less) ∙ filter-append test (places_below i ++ i ∷ []) rest ∙ ap (λ xs. xs ++ filter test rest) (filter-append test (places_below i) (i ∷ [])) in
+    ap (filter test) (places_below-parts i n pos less) ∙ filter-append test (places_below i ++ i ∷ []) rest ∙ ap (λ xs. xs ++ filter test rest) (filter-append test (places_below i) (i ∷ [])) in
     let here : filter test (i ∷ []) ≡ i ∷ [] = ap (λ b. cond b (i ∷ []) []) pass in
     ap (λ xs. slice_get xs (length (filter test (places_below i)))) (parts ∙ ap (λ xs. (filter test (places_below i) ++ xs) ++ filter test rest) here) ∙ seam (filter test (places_below i)) (filter test rest) i
 
@@ -71,7 +71,7 @@ pub find_at : (test : ℕ → Bool) (i n : ℕ) → 0 < i → i < n → test i �
 find_at test i n pos less pass none =
     let rest = range_with_len (i + 1) (n - 1 - i) in
     let parts : find test (places_below n) ≡ option_or (option_or (find test (places_below i)) (find test (i ∷ []))) (find test rest) =
-        ap (find test) (places_below-parts i n pos less) ∙ find-append test (places_below i ++ i ∷ []) rest ∙ ap (λ o. option_or o (find test rest)) (find-append test (places_below i) (i ∷ [])) in
+    ap (find test) (places_below-parts i n pos less) ∙ find-append test (places_below i ++ i ∷ []) rest ∙ ap (λ o. option_or o (find test rest)) (find-append test (places_below i) (i ∷ [])) in
     let here : find test (i ∷ []) ≡ Some i = ap (λ b. cond b (Some i) None) pass in
     parts ∙ ap (λ o. option_or (option_or o (find test (i ∷ []))) (find test rest)) none ∙ ap (λ o. option_or o (find test rest)) here
 

@@ -1,5 +1,5 @@
 -- What is known of a place, one place further.
-use Rattle.std.proofs.Common.{◌≡◌, ℕ, zero, suc, ◌+◌, ◌-◌, ◌<◌, ◌≤◌, Bool, true, false, not, ◌&&◌, cond, List, [], ◌∷◌, ◌++◌, length, filter, sym, ◌∙◌, ap, refl, arith, Some, None, add-one, ltb}
+use Rattle.std.proofs.Common.{◌≡◌, ℕ, zero, suc, ◌+◌, ◌-◌, ◌<◌, ◌≤◌, Bool, true, false, not, ◌&&◌, cond, List, length, sym, ◌∙◌, ap, refl, arith, Some, None, add-one}
 use Rattle.std.specs.Prelude.{nat_lt, is_some}
 use Rattle.std.proofs.lemmas.Bool.Decides.{nat_tests}
 use Rattle.std.specs.List.{slice_get}
@@ -7,8 +7,8 @@ use Rattle.std.proofs.lemmas.Option.{slice_get_past}
 use Rattle.std.specs.Str.{bytes_eq}
 use Rattle.rs01_words.specs.declared.table.Verb.{Verb}
 use Rattle.rs01_words.specs.declared.walk.Before.{Before}
-use Rattle.rs01_words.specs.Line.{word_at, is_option, value_kind, is_value, is_plain, is_given, plain_places, given_places, places_below, before_at}
-use Rattle.rs01_words.proofs.PlaceLists.{length-filter-more, length-filter-below, filter-more, found_at}
+use Rattle.rs01_words.specs.Line.{word_at, is_option, value_kind, is_value, is_plain, is_given, plain_places, given_places, before_at}
+use Rattle.rs01_words.proofs.PlaceLists.{length-filter-more, length-filter-below, found_at}
 
 after_command : (i : ℕ) → 0 < i → nat_lt 0 i ≡ true
 after_command i pos = grind (arith, nat_tests)
@@ -73,9 +73,9 @@ before_at-value verb words i before pos known value =
     let v : is_value verb words i ≡ true = sym (ap (λ b. b.is_value) known) ∙ value in
     let p : before.plain ≡ length (plain_places verb words i) = ap (λ b. b.plain) known in
     let next_value : is_value verb words (i + 1) ≡ false =
-        is_value-more verb words i pos ∙ ap (λ b. not b && is_some (value_kind verb (word_at words i))) v in
+    is_value-more verb words i pos ∙ ap (λ b. not b && is_some (value_kind verb (word_at words i))) v in
     let next_plain : length (plain_places verb words (i + 1)) ≡ length (plain_places verb words i) + 0 =
-        plain_places-more verb words i pos ∙ ap (λ b. length (plain_places verb words i) + cond (not b && not (is_option (word_at words i))) 1 0) v in
+    plain_places-more verb words i pos ∙ ap (λ b. length (plain_places verb words i) + cond (not b && not (is_option (word_at words i))) 1 0) v in
     same_before _ _ _ _ (sym next_value) (omega arith)
 
 next_value : (verb : Verb) (words : List (List ℕ)) (i : ℕ) → 0 < i → is_value verb words i ≡ false → is_some (value_kind verb (word_at words i)) ≡ is_value verb words (i + 1)
@@ -141,3 +141,10 @@ pub plain_places-most : (verb : Verb) (words : List (List ℕ)) (i : ℕ) → 0 
 plain_places-most verb words i pos =
     let most : cond (is_plain verb words i) 1 0 ≤ 1 = elim (is_plain verb words i) as (λ b. cond b 1 0 ≤ 1) [ true ↦ omega arith | false ↦ omega arith ] in
     omega (arith, plain_places-more verb words i pos)
+
+-- the tests of the code, by what is known of the place
+pub plain-is : (verb : Verb) (words : List (List ℕ)) (i : ℕ) (before : Before) → before ≡ before_at verb words i → (not before.is_value && not (is_option (word_at words i))) ≡ is_plain verb words i
+plain-is verb words i before known = ap (λ b. not b.is_value && not (is_option (word_at words i))) known
+
+pub given-is : (verb : Verb) (words : List (List ℕ)) (option : List ℕ) (i : ℕ) (before : Before) → before ≡ before_at verb words i → (not before.is_value && bytes_eq (word_at words i) option) ≡ is_given verb words option i
+given-is verb words option i before known = ap (λ b. not b.is_value && bytes_eq (word_at words i) option) known

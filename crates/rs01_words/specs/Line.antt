@@ -1,5 +1,5 @@
 -- What each word of a command line is: an option, the value of the option before it, or a plain word.
-use Rattle.std.specs.Prelude.{ℕ, zero, suc, ◌+◌, ◌-◌, List, [], ◌∷◌, Bool, true, false, not, ◌&&◌, ◌==◌, nat_lt, Option, Some, None, is_some, slice_index, length, filter, if◌then◌else◌}
+use Rattle.std.specs.Prelude.{ℕ, zero, suc, ◌-◌, List, [], Bool, false, not, ◌&&◌, ◌==◌, nat_lt, Option, None, is_some, slice_index, length, filter, if◌then◌else◌}
 use Rattle.std.specs.List.{slice_index_or, slice_get, range_with_len}
 use Rattle.std.specs.Option.{option_and_then}
 use Rattle.std.specs.Str.{bytes_eq}

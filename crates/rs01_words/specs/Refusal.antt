@@ -8,7 +8,7 @@ use Rattle.rs01_words.specs.declared.fault.WordFault.{WordFault}
 use Rattle.rs01_words.specs.declared.fault.WordFault.TheVariants.{UnknownOption, Repeated, NoValue, OutOfRange, Missing, SameName}
 use Rattle.rs01_words.specs.declared.fault.WordRefused.{WordRefused}
 use Rattle.rs01_words.specs.declared.table.Kind.{Kind}
-use Rattle.rs01_words.specs.declared.table.Kind.TheVariants.{Name, Drive, Number, Parity}
+use Rattle.rs01_words.specs.declared.table.Kind.TheVariants.{Name, Drive}
 use Rattle.rs01_words.specs.declared.table.Verb.{Verb}
 use Rattle.rs01_words.specs.declared.table.Verb.TheVariants.{Create, Fix, Verify, Scan, Read, Demo}
 use Rattle.rs01_words.specs.declared.table.OptionRule.{OptionRule}

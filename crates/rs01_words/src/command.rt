@@ -21,9 +21,15 @@ pub enum Command {
         cut: bool,
     },
     /// Compare `image` with `ecc`.
-    Verify { image: usize, ecc: usize },
+    Verify {
+        image: usize,
+        ecc: usize,
+    },
     /// Ask for every sector once.
-    Scan { ecc: Option<usize>, drives: Places },
+    Scan {
+        ecc: Option<usize>,
+        drives: Places,
+    },
     /// Read a medium into `image`.
     Read {
         image: usize,

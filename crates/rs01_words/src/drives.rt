@@ -3,12 +3,11 @@ ghost use Rattle.std.specs.Prelude.{◌≡◌, length, map, string_bytes, IfOk};
 ghost use Rattle.rs01_words.specs.Line.{word_at};
 ghost use Rattle.rs01_words.specs.Command.{AreWithin, drives_of, drive_names_of};
 
-use std::alloc::{AllocError, Global};
-
 use crate::command::Command;
 use crate::places::Places;
 use crate::read::read_words;
 use crate::walk::word_at;
+use std::alloc::{AllocError, Global};
 
 // The words at these places, in order.
 fn names_at(alloc: Global, words: &[String], places: &Places) -> Result<Vec<String>, AllocError>

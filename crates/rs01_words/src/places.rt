@@ -2,9 +2,8 @@
 ghost use Rattle.std.specs.Prelude.{◌≡◌, ℕ, ◌<◌, ◌≤◌, ◌==◌, ◌++◌, List, [], ◌∷◌, length, take};
 ghost use Rattle.std.specs.List.{slice_get};
 
-use std::marker::Model;
-
 use crate::table::MOST_DRIVES;
+use std::marker::Model;
 
 /// At most 16 places of words, in order. A contract sees the list of the places.
 #[derive(Debug, Drop)]

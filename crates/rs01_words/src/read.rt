@@ -29,7 +29,7 @@ fn has_option(verb: Verb, words: &[String], option: &str) -> bool
 fn option_word<'a>(verb: Verb, words: &'a [String], option: &str) -> Option<&'a str>
     ensures { option_map (λ x. x.now) result
         ≡ option_and_then (λ i. slice_get (map string_bytes words.now) (i + 1))
-            (slice_get (given_places verb (map string_bytes words.now) option.now (length (map string_bytes words.now))) 0) }
+        (slice_get (given_places verb (map string_bytes words.now) option.now (length (map string_bytes words.now))) 0) }
 {
     match given_place(verb, words, option, words.len(), 0) {
         None => None,
@@ -59,9 +59,9 @@ fn drives(verb: Verb, words: &[String]) -> Places
     ensures within { AreWithin (length words.now) result }
 {
     let mut drives = Places::new();
-    let mut before = start(verb, words);
+    let mut before = start();
     for place in 1..words.len() {
-        if is_given(verb, words, "--drive", place, before) {
+        if is_given(words, "--drive", place, before) {
             drives.push(place + 1);
         }
         before = next(verb, words, place, before);

@@ -17,8 +17,8 @@ fn option_fault(verb: Verb, words: &[String], place: usize) -> Option<WordFault>
     requires { place < length words.now }
     ensures { result
         ≡ option_fault (option_of verb (word_at (map string_bytes words.now) place))
-            (length (given_places verb (map string_bytes words.now) (word_at (map string_bytes words.now) place) place))
-            (place + 1 == length words.now) }
+        (length (given_places verb (map string_bytes words.now) (word_at (map string_bytes words.now) place) place))
+        (place + 1 == length words.now) }
 {
     let word = word_at(words, place);
     match option_of(verb, word) {
@@ -66,7 +66,7 @@ fn first_fault(verb: Verb, words: &[String]) -> Option<WordRefused>
     ensures clear { IfNone result
         (find (has_fault verb (map string_bytes words.now)) (places_below (length (map string_bytes words.now))) ≡ None) }
 {
-    let mut before = start(verb, words);
+    let mut before = start();
     for place in 1..words.len() {
         if let Some(fault) = fault_at(verb, words, place, before) {
             return Some(WordRefused { fault, place });
@@ -137,7 +137,7 @@ fn clash(
     requires earlier_inside { earlier < length words.now }
     ensures { result
         ≡ (must_differ kind other
-            && bytes_eq (word_at (map string_bytes words.now) place) (word_at (map string_bytes words.now) earlier)) }
+        && bytes_eq (word_at (map string_bytes words.now) place) (word_at (map string_bytes words.now) earlier)) }
 {
     must_differ(kind, other) && word_at(words, place) == word_at(words, earlier)
 }
@@ -149,7 +149,7 @@ fn repeats_name(verb: Verb, words: &[String], place: usize, kind: Option<Kind>) 
     requires stands_for { kind ≡ kind_at verb (map string_bytes words.now) place }
     ensures { result ≡ repeats_name verb (map string_bytes words.now) place }
 {
-    let mut before = start(verb, words);
+    let mut before = start();
     for earlier in 1..place {
         let other = kind_at(verb, words, earlier, before);
         if clash(words, place, kind, earlier, other) {
@@ -166,7 +166,7 @@ fn same_name(verb: Verb, words: &[String]) -> Option<WordRefused>
     ensures clear { IfNone result
         (find (repeats_name verb (map string_bytes words.now)) (places_below (length (map string_bytes words.now))) ≡ None) }
 {
-    let mut before = start(verb, words);
+    let mut before = start();
     for place in 1..words.len() {
         if repeats_name(verb, words, place, kind_at(verb, words, place, before)) {
             return Some(WordRefused {

@@ -83,7 +83,10 @@ pub const WORKERS: OptionRule = OptionRule {
 
 /// `--jump`: how many sectors linear reading goes on after a failed one.
 pub const JUMP: OptionRule = OptionRule {
-    value: Some(Kind::Number { low: 1, high: 1_048_576 }),
+    value: Some(Kind::Number {
+        low: 1,
+        high: 1_048_576,
+    }),
     again: 0,
     default: 1,
 };

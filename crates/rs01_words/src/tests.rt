@@ -1,8 +1,7 @@
 //! The grammar against worked command lines.
+use crate::{Command, WordFault, drive_names, read_words};
 use std::alloc::{AllocError, Global};
 use std::test::Fail;
-
-use crate::{Command, WordFault, drive_names, read_words};
 
 // The words of a line, parted by spaces.
 fn words_of(alloc: Global, line: &str) -> Result<Vec<String>, AllocError> {
@@ -56,7 +55,11 @@ fn refusals(rt: HostRuntime) -> Result<(), Fail> {
         ("demo 1 4 32 5", WordFault::OutOfRange, 4),
         ("create a a", WordFault::SameName, 2),
         ("read a --drive b a", WordFault::SameName, 4),
-        ("read a --drive b --drive b --drive a", WordFault::SameName, 7),
+        (
+            "read a --drive b --drive b --drive a",
+            WordFault::SameName,
+            7,
+        ),
         ("scan --drive a a", WordFault::SameName, 3),
     ] {
         match read_words(words_of(rt.alloc(), line)?.as_slice()) {
@@ -81,49 +84,72 @@ fn commands(rt: HostRuntime) -> Result<(), Fail> {
         ("create a b --parity 8", (1, 2, 8, 2)),
     ] {
         match read_words(words_of(rt.alloc(), line)?.as_slice()) {
-            Ok(Command::Create {
-                image,
-                ecc,
-                parity,
-                workers,
-            }) => assert_eq!(rt; (image, ecc, parity, workers), wanted, "{line}"),
+            Ok(
+                Command::Create {
+                    image,
+                    ecc,
+                    parity,
+                    workers,
+                },
+            ) => assert_eq!(rt; (image, ecc, parity, workers), wanted, "{line}"),
             _ => assert!(rt; false, "{line}"),
         }
     }
     match read_words(words_of(rt.alloc(), "fix --cut a b")?.as_slice()) {
-        Ok(Command::Fix {
-            image,
-            ecc,
-            workers,
-            cut,
-        }) => assert_eq!(rt; (image, ecc, workers, cut), (2, 3, 2, true)),
+        Ok(
+            Command::Fix {
+                image,
+                ecc,
+                workers,
+                cut,
+            },
+        ) => assert_eq!(rt; (image, ecc, workers, cut), (2, 3, 2, true)),
         _ => assert!(rt; false),
     }
-    match read_words(words_of(rt.alloc(), "read a --drive b --drive --jump --adaptive")?.as_slice())
+    match read_words(words_of(
+        rt.alloc(),
+        "read a --drive b --drive --jump --adaptive",
+    )?.as_slice())
     {
-        Ok(Command::Read {
-            image,
-            ecc,
-            drives,
-            adaptive,
-            jump,
-            tries,
-            workers,
-        }) => {
-            assert_eq!(rt; (image, ecc, adaptive, jump, tries, workers), (1, None, true, 1, 1, 2));
+        Ok(
+            Command::Read {
+                image,
+                ecc,
+                drives,
+                adaptive,
+                jump,
+                tries,
+                workers,
+            },
+        ) => {
+            assert_eq!(rt;
+                (image, ecc, adaptive, jump, tries, workers),
+                (1, None, true, 1, 1, 2)
+            );
             assert_eq!(rt; (drives.len(), drives.is_empty()), (2, false));
-            assert_eq!(rt; (drives.get(0), drives.get(1), drives.get(2)), (Some(3), Some(5), None));
+            assert_eq!(rt;
+                (drives.get(0), drives.get(1), drives.get(2)),
+                (Some(3), Some(5), None)
+            );
         }
         _ => assert!(rt; false),
     }
-    match read_words(words_of(rt.alloc(), "demo 18446744073709551615 65536 high 65536")?.as_slice())
+    match read_words(words_of(
+        rt.alloc(),
+        "demo 18446744073709551615 65536 high 65536",
+    )?.as_slice())
     {
-        Ok(Command::Demo {
-            number,
-            sectors,
-            parity,
-            lost,
-        }) => assert_eq!(rt; (number, sectors, parity, lost), (u64::MAX, 65_536, 64, 65_536)),
+        Ok(
+            Command::Demo {
+                number,
+                sectors,
+                parity,
+                lost,
+            },
+        ) => assert_eq!(rt;
+            (number, sectors, parity, lost),
+            (u64::MAX, 65_536, 64, 65_536)
+        ),
         _ => assert!(rt; false),
     }
     Ok(())

@@ -1,7 +1,8 @@
 //! A walk over the words after the command, from left to right.
-ghost use Rattle.std.specs.Prelude.{◌≡◌, ◌+◌, ◌<◌, ◌≤◌, length, map, string_bytes, IfSome};
+ghost use Rattle.std.specs.Prelude.{◌≡◌, ◌+◌, ◌<◌, ◌≤◌, length, map, string_bytes, not, ◌&&◌, true, false, IfSome};
+ghost use Rattle.std.specs.Str.{bytes_eq};
 ghost use Rattle.std.specs.List.{slice_get};
-ghost use Rattle.rs01_words.specs.Line.{word_at, is_option, value_kind, is_plain, is_given, plain_places, given_places, kind_at, before_at};
+ghost use Rattle.rs01_words.specs.Line.{word_at, is_option, value_kind, plain_places, given_places, kind_at, before_at};
 
 use crate::table::{Kind, Verb, option_of, plain_kinds};
 
@@ -40,12 +41,10 @@ pub fn value_kind(verb: Verb, word: &str) -> Option<Kind>
     }
 }
 
-/// What is known of the first word after the command.
-pub fn start(verb: Verb, words: &[String]) -> Before
-    ensures { result ≡ before_at verb (map string_bytes words.now) 1 }
+/// What is known of the first place after the command.
+pub fn start() -> Before
+    ensures { result ≡ record { is_value = false; plain = 0 } }
 {
-    let _ = verb;
-    let _ = words;
     Before {
         is_value: false,
         plain: 0,
@@ -68,7 +67,11 @@ pub fn next(verb: Verb, words: &[String], place: usize, before: Before) -> Befor
     } else {
         Before {
             is_value: value_kind(verb, word).is_some(),
-            plain: if is_option(word) { before.plain } else { before.plain + 1 },
+            plain: if is_option(word) {
+                before.plain
+            } else {
+                before.plain + 1
+            },
         }
     }
 }
@@ -92,28 +95,20 @@ pub fn kind_at(verb: Verb, words: &[String], place: usize, before: Before) -> Op
 }
 
 /// Whether a plain word stands at a place.
-pub fn is_plain(verb: Verb, words: &[String], place: usize, before: Before) -> bool
-    requires inside { place < length words.now }
-    requires known { before ≡ before_at verb (map string_bytes words.now) place }
-    ensures { result ≡ is_plain verb (map string_bytes words.now) place }
+pub fn is_plain(words: &[String], place: usize, before: Before) -> bool
+    requires { place < length words.now }
+    ensures { result
+        ≡ (not before.is_value && not (is_option (word_at (map string_bytes words.now) place))) }
 {
-    let _ = verb;
     !before.is_value && !is_option(word_at(words, place))
 }
 
 /// Whether the option is given at a place.
-pub fn is_given(
-    verb: Verb,
-    words: &[String],
-    option: &str,
-    place: usize,
-    before: Before,
-) -> bool
-    requires inside { place < length words.now }
-    requires known { before ≡ before_at verb (map string_bytes words.now) place }
-    ensures { result ≡ is_given verb (map string_bytes words.now) option.now place }
+pub fn is_given(words: &[String], option: &str, place: usize, before: Before) -> bool
+    requires { place < length words.now }
+    ensures { result
+        ≡ (not before.is_value && bytes_eq (word_at (map string_bytes words.now) place) option.now) }
 {
-    let _ = verb;
     !before.is_value && word_at(words, place) == option
 }
 
@@ -131,9 +126,9 @@ pub fn given_place(
     ensures within { IfSome result (λ place. place < end) }
 {
     let mut seen: usize = 0;
-    let mut before = start(verb, words);
+    let mut before = start();
     for place in 1..end {
-        if is_given(verb, words, option, place, before) {
+        if is_given(words, option, place, before) {
             if seen == count {
                 return Some(place);
             }
@@ -150,9 +145,9 @@ pub fn plain_place(verb: Verb, words: &[String], number: usize) -> Option<usize>
         ≡ slice_get (plain_places verb (map string_bytes words.now) (length words.now)) number }
     ensures within { IfSome result (λ place. place < length words.now) }
 {
-    let mut before = start(verb, words);
+    let mut before = start();
     for place in 1..words.len() {
-        if before.plain == number && is_plain(verb, words, place, before) {
+        if before.plain == number && is_plain(words, place, before) {
             return Some(place);
         }
         before = next(verb, words, place, before);

@@ -1,4 +1,4 @@
-use Rattle.std.proofs.Common.{◌≡◌, ◌≤◌, arith, map, string_bytes}
+use Rattle.std.proofs.Common.{arith, map, string_bytes}
 use Rattle.rs01_words.proofs.Answering.{enough_sectors}
 use Rattle.rs01_words.proofs.read.demo.Goals as goal
 

@@ -8,5 +8,5 @@ abbrev pub invariant-loop-place : goal.invariant-loop-place
 invariant-loop-place l = record {
   known : l.before ≡ before_at l.verb (map string_bytes l.words) l.place;
   found : l.drives ≡ map (λ i. i + 1) (given_places l.verb (map string_bytes l.words) (codes "--drive") l.place);
-  within : AreWithin (length l.words) l.drives
+  within : AreWithin (length l.words) l.drives;
 }

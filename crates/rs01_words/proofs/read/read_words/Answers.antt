@@ -1,4 +1,4 @@
-use Rattle.std.proofs.Common.{◌≡◌, ap, sym, ◌∙◌, length, map, string_bytes, Ok}
+use Rattle.std.proofs.Common.{◌≡◌, ap, sym, ◌∙◌, map, string_bytes, Ok}
 use Rattle.rs01_words.specs.Line.{word_at}
 use Rattle.std.proofs.lemmas.List.{length-map}
 use Rattle.rs01_words.specs.Table.{verb_of}

@@ -1,8 +1,11 @@
-use Rattle.std.proofs.Common.{◌≡◌, ap, arith, sym, ◌∙◌, ℕ, ◌+◌, ◌<◌, ◌≤◌, length, map, string_bytes, true, false}
-use Rattle.std.proofs.lemmas.List.{length-map}
+use Rattle.std.proofs.Common.{arith, sym, ◌∙◌, refl}
 use Rattle.rs01_words.proofs.PlaceLists.{find-more}
-use Rattle.rs01_words.proofs.Refusals.{first_fault-Some, first_fault-None, has_fault-no, same_name-Some, same_name-None, repeats_name-true, repeats_name-false, missing_word-Some, missing_word-None, missing_word-zero, clash-is}
+use Rattle.rs01_words.proofs.Steps.{before_at-one}
+use Rattle.rs01_words.proofs.Refusals.{repeats_name-true, repeats_name-false, clash-is}
 use Rattle.rs01_words.proofs.refusal.repeats_name.Goals as goal
+
+pub loop-earlier-init : goal.loop-earlier-init
+loop-earlier-init c = record { known = c.start-before.ensures ∙ before_at-one _ _; passed = refl }
 
 pub returns-then-clash : goal.returns-then-clash
 returns-then-clash c =
@@ -11,7 +14,7 @@ returns-then-clash c =
 pub loop-earlier-preserved : goal.loop-earlier-preserved
 loop-earlier-preserved c = record {
   known = c.next-before.ensures;
-  passed = find-more _ c.loop-earlier.earlier (omega arith) (sym (c.clash.ensures ∙ clash-is _ _ _ _ _ _ c.requires.stands_for c.kind_at-other.ensures) ∙ c.if-clash.false) c.loop-earlier.invariant.passed
+  passed = find-more _ c.loop-earlier.earlier (omega arith) (sym (c.clash.ensures ∙ clash-is _ _ _ _ _ _ c.requires.stands_for c.kind_at-other.ensures) ∙ c.if-clash.false) c.loop-earlier.invariant.passed;
 }
 
 pub returns : goal.returns

@@ -1,8 +1,12 @@
-use Rattle.std.proofs.Common.{◌≡◌, ap, arith, sym, ◌∙◌, ℕ, ◌+◌, ◌<◌, ◌≤◌, length, map, string_bytes, true, false}
+use Rattle.std.proofs.Common.{arith, sym, ◌∙◌, string_bytes, refl}
 use Rattle.std.proofs.lemmas.List.{length-map}
 use Rattle.rs01_words.proofs.PlaceLists.{find-more, find_end}
-use Rattle.rs01_words.proofs.Refusals.{first_fault-Some, first_fault-None, has_fault-no, same_name-Some, same_name-None, repeats_name-true, repeats_name-false, missing_word-Some, missing_word-None, missing_word-zero, clash-is}
+use Rattle.rs01_words.proofs.Steps.{before_at-one}
+use Rattle.rs01_words.proofs.Refusals.{same_name-Some, same_name-None}
 use Rattle.rs01_words.proofs.refusal.same_name.Goals as goal
+
+pub loop-place-init : goal.loop-place-init
+loop-place-init c = record { known = c.start-before.ensures ∙ before_at-one _ _; passed = refl }
 
 pub returns-then-repeats_name-clause-value : goal.returns-then-repeats_name-clause-value
 returns-then-repeats_name-clause-value c =
@@ -11,7 +15,7 @@ returns-then-repeats_name-clause-value c =
 pub loop-place-preserved : goal.loop-place-preserved
 loop-place-preserved c = record {
   known = c.next-before.ensures;
-  passed = find-more _ c.loop-place.place (omega arith) (sym c.repeats_name.ensures ∙ c.if-repeats_name.false) c.loop-place.invariant.passed
+  passed = find-more _ c.loop-place.place (omega arith) (sym c.repeats_name.ensures ∙ c.if-repeats_name.false) c.loop-place.invariant.passed;
 }
 
 pub returns : goal.returns
@@ -19,5 +23,5 @@ returns c =
     let long = length-map c.args.words.now string_bytes in
     record {
       value = same_name-None _ _ c.loop-place.place (omega arith) (λ some. omega (arith, c.loop-place.auto.place-end)) c.loop-place.invariant.passed;
-      clear = find_end _ c.loop-place.place _ (omega arith) (λ some. omega (arith, c.loop-place.auto.place-end)) c.loop-place.invariant.passed
+      clear = find_end _ c.loop-place.place _ (omega arith) (λ some. omega (arith, c.loop-place.auto.place-end)) c.loop-place.invariant.passed;
     }

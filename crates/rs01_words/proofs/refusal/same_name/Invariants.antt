@@ -7,5 +7,5 @@ use Rattle.rs01_words.proofs.refusal.same_name.Given as goal
 abbrev pub invariant-loop-place : goal.invariant-loop-place
 invariant-loop-place l = record {
   known : l.before ≡ before_at l.verb (map string_bytes l.words) l.place;
-  passed : find (repeats_name l.verb (map string_bytes l.words)) (places_below l.place) ≡ None
+  passed : find (repeats_name l.verb (map string_bytes l.words)) (places_below l.place) ≡ None;
 }

@@ -1,4 +1,4 @@
-use Rattle.std.proofs.Common.{◌≡◌, ap, arith, sym, ◌∙◌, ℕ, length, map, string_bytes}
+use Rattle.std.proofs.Common.{◌≡◌, ap, arith, sym, ◌∙◌, length, map, string_bytes}
 use Rattle.std.specs.Prelude.{true, false, is_some, ◌+◌}
 use Rattle.rs01_words.specs.Line.{plain_places, word_at, is_option, value_kind}
 use Rattle.rs01_words.proofs.Steps.{before_at-value, before_at-option, before_at-plain, plain_places-below}
@@ -19,7 +19,7 @@ returns-then-is_option c =
     let there : c.word_at-word.result.now ≡ word_at texts c.args.place = c.word_at-word.ensures in
     let option : is_option (word_at texts c.args.place) ≡ true = sym (c.is_option.ensures ∙ ap is_option there) ∙ c.if-is_option.true in
     let value : c.is_some.result ≡ is_some (value_kind c.args.verb (word_at texts c.args.place)) =
-        c.is_some.ensures ∙ ap is_some (c.value_kind.ensures ∙ ap (value_kind c.args.verb) there) in
+    c.is_some.ensures ∙ ap is_some (c.value_kind.ensures ∙ ap (value_kind c.args.verb) there) in
     ap (λ b. record { is_value = b; plain = c.args.before.plain }) value ∙
     before_at-option _ _ _ _ c.requires.after_command c.requires.known c.if-before.false option
 
@@ -29,6 +29,6 @@ returns-else-is_option c =
     let there : c.word_at-word.result.now ≡ word_at texts c.args.place = c.word_at-word.ensures in
     let option : is_option (word_at texts c.args.place) ≡ false = sym (c.is_option.ensures ∙ ap is_option there) ∙ c.if-is_option.false in
     let value : c.is_some.result ≡ is_some (value_kind c.args.verb (word_at texts c.args.place)) =
-        c.is_some.ensures ∙ ap is_some (c.value_kind.ensures ∙ ap (value_kind c.args.verb) there) in
+    c.is_some.ensures ∙ ap is_some (c.value_kind.ensures ∙ ap (value_kind c.args.verb) there) in
     ap (λ b. record { is_value = b; plain = c.args.before.plain + 1 }) value ∙
     before_at-plain _ _ _ _ c.requires.after_command c.requires.known c.if-before.false option
