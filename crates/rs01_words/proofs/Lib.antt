@@ -1,0 +1,7 @@
+mod Numbers
+mod PlaceLists
+mod Steps
+mod Refusals
+mod DriveFaults
+mod Answering
+mod Names

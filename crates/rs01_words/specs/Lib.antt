@@ -1,0 +1,5 @@
+pub mod Table
+pub mod Value
+pub mod Line
+pub mod Refusal
+pub mod Command

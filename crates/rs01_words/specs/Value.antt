@@ -1,0 +1,93 @@
+-- The value that a word stands for, by its kind.
+use Rattle.std.specs.Prelude.{ℕ, ◌+◌, ◌-◌, ◌*◌, List, Bool, true, not, ◌&&◌, ◌==◌, nat_le, Option, Some, None, Result, Ok, Err, codes, fold, length, if◌then◌else◌}
+use Rattle.std.specs.List.{list_all}
+use Rattle.std.specs.Result.{result_unwrap_or}
+use Rattle.std.specs.Str.{bytes_eq}
+use Rattle.rs01_words.specs.declared.table.Kind.{Kind}
+use Rattle.rs01_words.specs.declared.table.Kind.TheVariants.{Name, Drive, Number, Parity}
+use Rattle.rs01_words.specs.declared.table.OptionRule.{OptionRule}
+use Rattle.rs01_words.specs.declared.table.TheConstants.{NORMAL, HIGH}
+use Rattle.rs01_words.specs.declared.fault.WordFault.{WordFault}
+use Rattle.rs01_words.specs.declared.fault.WordFault.TheVariants.{BadNumber, OutOfRange}
+
+-- whether a character is one of 0 to 9
+abbrev pub is_digit : ℕ → Bool
+is_digit b = nat_le 48 b && nat_le b 57
+
+-- whether a word is one or more digits
+abbrev pub is_decimal : List ℕ → Bool
+is_decimal word = not (length word == 0) && list_all is_digit word
+
+-- the number that decimal digits stand for, the first digit highest
+unfoldable pub number_of : List ℕ → ℕ
+number_of word = fold (λ n b. 10 * n + (b - 48)) 0 word
+
+-- a number, where it is at most high
+abbrev pub up_to : ℕ → ℕ → Option ℕ
+up_to high n = if nat_le n high then Some n else None
+
+-- the number of a word, where it is one from low to high
+abbrev pub number_within : ℕ → ℕ → List ℕ → Result ℕ WordFault
+number_within low high word =
+    if not (is_decimal word) then Err BadNumber
+    else (if nat_le low (number_of word) && nat_le (number_of word) high then Ok (number_of word) else Err OutOfRange)
+
+-- the number that a word stands for; a name stands for none, and 0 is put in its place
+abbrev pub value_of : Kind → List ℕ → Result ℕ WordFault
+value_of Name word = Ok 0
+value_of Drive word = Ok 0
+value_of (Number low high) word = number_within low high word
+value_of (Parity low high) word =
+    if bytes_eq word (codes "normal") then Ok NORMAL
+    else (if bytes_eq word (codes "high") then Ok HIGH else number_within low high word)
+
+-- the least and the greatest number of a kind; a name stands for 0
+abbrev pub kind_low : Kind → ℕ
+kind_low Name = 0
+kind_low Drive = 0
+kind_low (Number low high) = low
+kind_low (Parity low high) = low
+
+abbrev pub kind_high : Kind → ℕ
+kind_high Name = 0
+kind_high Drive = 0
+kind_high (Number low high) = high
+kind_high (Parity low high) = high
+
+-- whether a kind's range has a number, and the presets lie in it
+abbrev pub is_sound : Kind → Bool
+is_sound Name = true
+is_sound Drive = true
+is_sound (Number low high) = nat_le low high
+is_sound (Parity low high) = nat_le low NORMAL && nat_le HIGH high
+
+-- the number that a word stands for, and the one given for a word that stands for none
+abbrev pub number_or : Kind → ℕ → List ℕ → ℕ
+number_or kind other word = result_unwrap_or (value_of kind word) other
+
+-- the same for the value of an option, where it takes one
+abbrev pub value_low : Option Kind → ℕ
+value_low None = 0
+value_low (Some kind) = kind_low kind
+
+abbrev pub value_high : Option Kind → ℕ
+value_high None = 0
+value_high (Some kind) = kind_high kind
+
+-- whether an option's default lies in its range
+abbrev pub is_sound_rule : OptionRule → Bool
+is_sound_rule rule =
+    is_sound_value rule.value && (nat_le (value_low rule.value) rule.default && nat_le rule.default (value_high rule.value))
+  where
+    is_sound_value : Option Kind → Bool
+    is_sound_value None = true
+    is_sound_value (Some kind) = is_sound kind
+
+-- the number of an option: that of its value where it is given, else its default
+abbrev pub given_number : OptionRule → Option (List ℕ) → ℕ
+given_number rule None = rule.default
+given_number rule (Some word) = number_or_default rule.value rule.default word
+  where
+    number_or_default : Option Kind → ℕ → List ℕ → ℕ
+    number_or_default None other word = other
+    number_or_default (Some kind) other word = number_or kind other word

@@ -1,0 +1,48 @@
+//! The names of the drives.
+ghost use Rattle.std.specs.Prelude.{◌≡◌, length, map, string_bytes, IfOk};
+ghost use Rattle.rs01_words.specs.Line.{word_at};
+ghost use Rattle.rs01_words.specs.Command.{AreWithin, drives_of, drive_names_of};
+
+use crate::command::Command;
+use crate::places::Places;
+use crate::read::read_words;
+use crate::walk::word_at;
+use std::alloc::{AllocError, Global};
+
+// The words at these places, in order.
+fn names_at(alloc: Global, words: &[String], places: &Places) -> Result<Vec<String>, AllocError>
+    requires { AreWithin (length words.now) places.now }
+    ensures { IfOk result (λ names.
+        map string_bytes names.items ≡ map (word_at (map string_bytes words.now)) places.now) }
+{
+    let mut names = Vec::new(alloc);
+    for i in 0..places.len() {
+        if let Some(place) = places.get(i) {
+            names.push(String::from_str(alloc, word_at(words, place))?)?;
+        }
+    }
+    Ok(names)
+}
+
+// The places of the drives that a command takes.
+fn drives_of(asked: Command) -> Places
+    ensures { result ≡ drives_of asked }
+{
+    match asked {
+        Command::Scan { drives, .. } => drives,
+        Command::Read { drives, .. } => drives,
+        _ => Places::new(),
+    }
+}
+
+/// The names of the drives in the words, in order, where the words ask for something. Else none.
+#[tactic(auto, unfolding(crate::specs::Command::drive_names_of))]
+pub fn drive_names(alloc: Global, words: &[String]) -> Result<Vec<String>, AllocError>
+    ensures { IfOk result (λ names.
+        map string_bytes names.items ≡ drive_names_of (map string_bytes words.now)) }
+{
+    match read_words(words) {
+        Ok(asked) => names_at(alloc, words, &drives_of(asked)),
+        Err(_) => Ok(Vec::new(alloc)),
+    }
+}

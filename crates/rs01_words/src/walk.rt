@@ -1,0 +1,156 @@
+//! A walk over the words after the command, from left to right.
+ghost use Rattle.std.specs.Prelude.{◌≡◌, ◌+◌, ◌<◌, ◌≤◌, length, map, string_bytes, not, ◌&&◌, true, false, IfSome};
+ghost use Rattle.std.specs.Str.{bytes_eq};
+ghost use Rattle.std.specs.List.{slice_get};
+ghost use Rattle.rs01_words.specs.Line.{word_at, is_option, value_kind, plain_places, given_places, kind_at, before_at};
+
+use crate::table::{Kind, Verb, option_of, plain_kinds};
+
+/// What the words before a place say of it.
+#[derive(Clone, Copy)]
+pub struct Before {
+    /// Whether the word there is the value of the option before it.
+    pub is_value: bool,
+    /// How many plain words stand before it.
+    pub plain: usize,
+}
+
+/// The word at a place.
+pub fn word_at(words: &[String], place: usize) -> &str
+    requires { place < length words.now }
+    ensures { result.now ≡ word_at (map string_bytes words.now) place }
+{
+    words[place].as_str()
+}
+
+/// Whether a word begins with two dashes.
+pub fn is_option(word: &str) -> bool
+    ensures { result ≡ is_option word.now }
+{
+    let bytes = word.as_bytes();
+    bytes.len() >= 2 && bytes[0] == b'-' && bytes[1] == b'-'
+}
+
+/// What the value of an option is, where the command has the option and it takes one.
+pub fn value_kind(verb: Verb, word: &str) -> Option<Kind>
+    ensures { result ≡ value_kind verb word.now }
+{
+    match option_of(verb, word) {
+        Some(rule) => rule.value,
+        None => None,
+    }
+}
+
+/// What is known of the first place after the command.
+pub fn start() -> Before
+    ensures { result ≡ record { is_value = false; plain = 0 } }
+{
+    Before {
+        is_value: false,
+        plain: 0,
+    }
+}
+
+/// What is known of the next place.
+pub fn next(verb: Verb, words: &[String], place: usize, before: Before) -> Before
+    requires inside { place < length words.now }
+    requires after_command { 0 < place }
+    requires known { before ≡ before_at verb (map string_bytes words.now) place }
+    ensures { result ≡ before_at verb (map string_bytes words.now) (place + 1) }
+{
+    let word = word_at(words, place);
+    if before.is_value {
+        Before {
+            is_value: false,
+            plain: before.plain,
+        }
+    } else {
+        Before {
+            is_value: value_kind(verb, word).is_some(),
+            plain: if is_option(word) {
+                before.plain
+            } else {
+                before.plain + 1
+            },
+        }
+    }
+}
+
+/// What the word at a place stands for. An option stands for nothing, nor does a plain word too
+/// many.
+#[tactic(auto, unfolding(crate::specs::Line::kind_at))]
+pub fn kind_at(verb: Verb, words: &[String], place: usize, before: Before) -> Option<Kind>
+    requires inside { place < length words.now }
+    requires after_command { 0 < place }
+    requires known { before ≡ before_at verb (map string_bytes words.now) place }
+    ensures { result ≡ kind_at verb (map string_bytes words.now) place }
+{
+    if before.is_value {
+        value_kind(verb, word_at(words, place - 1))
+    } else if is_option(word_at(words, place)) {
+        None
+    } else {
+        plain_kinds(verb).get(before.plain).copied()
+    }
+}
+
+/// Whether a plain word stands at a place.
+pub fn is_plain(words: &[String], place: usize, before: Before) -> bool
+    requires { place < length words.now }
+    ensures { result
+        ≡ (not before.is_value && not (is_option (word_at (map string_bytes words.now) place))) }
+{
+    !before.is_value && !is_option(word_at(words, place))
+}
+
+/// Whether the option is given at a place.
+pub fn is_given(words: &[String], option: &str, place: usize, before: Before) -> bool
+    requires { place < length words.now }
+    ensures { result
+        ≡ (not before.is_value && bytes_eq (word_at (map string_bytes words.now) place) option.now) }
+{
+    !before.is_value && word_at(words, place) == option
+}
+
+/// The place below `end` at which an option is given for the time `count`, counted from 0.
+pub fn given_place(
+    verb: Verb,
+    words: &[String],
+    option: &str,
+    end: usize,
+    count: usize,
+) -> Option<usize>
+    requires { end ≤ length words.now }
+    ensures value { result
+        ≡ slice_get (given_places verb (map string_bytes words.now) option.now end) count }
+    ensures within { IfSome result (λ place. place < end) }
+{
+    let mut seen: usize = 0;
+    let mut before = start();
+    for place in 1..end {
+        if is_given(words, option, place, before) {
+            if seen == count {
+                return Some(place);
+            }
+            seen += 1;
+        }
+        before = next(verb, words, place, before);
+    }
+    None
+}
+
+/// The place of the plain word with this number, counted from 0.
+pub fn plain_place(verb: Verb, words: &[String], number: usize) -> Option<usize>
+    ensures value { result
+        ≡ slice_get (plain_places verb (map string_bytes words.now) (length words.now)) number }
+    ensures within { IfSome result (λ place. place < length words.now) }
+{
+    let mut before = start();
+    for place in 1..words.len() {
+        if before.plain == number && is_plain(words, place, before) {
+            return Some(place);
+        }
+        before = next(verb, words, place, before);
+    }
+    None
+}
