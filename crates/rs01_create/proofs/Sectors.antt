@@ -11,20 +11,12 @@ use Rattle.std.proofs.lemmas.Slice.Eq.{bytes_eq-Decides}
 use Rattle.rs01_layers.specs.Sectors.{sectors_of, last_of, length_of, block, sector}
 use Rattle.rs01_sums.specs.Marker.{marker}
 use Rattle.rs01_create.specs.Create.{first_marked}
-use Rattle.rs01_create.proofs.Pieces.{range_with_len_more}
+use Rattle.rs01_ecchead.proofs.Ranges.{range_with_len_more, range_with_len-append}
 
 -- a block of the sector's length is the sector
 pub is_sector : (image b : List ℕ) (n last s len : ℕ) → n ≡ sectors_of (length image) → last ≡ last_of (length image)
     → len ≡ length_of n last s → b ≡ block image s len → b ≡ sector image s
 is_sector image b n last s len ne le e f = f ∙ ap (block image s) (e ∙ (λ i. length_of (ne i) (le i) s))
-
-range_with_len-append : (a m n : ℕ) → range_with_len a (m + n) ≡ range_with_len a m ++ range_with_len (a + m) n
-range_with_len-append a zero n =
-    (λ i. range_with_len (let e : a ≡ a + 0 = omega arith in e i) (let e : 0 + n ≡ n = omega arith in e i))
-range_with_len-append a (suc m) n =
-    ap (range_with_len a) (let e : suc m + n ≡ suc (m + n) = omega arith in e)
-    ∙ ap (λ xs. a ∷ xs) (range_with_len-append (a + 1) m n
-    ∙ ap (λ k. range_with_len (a + 1) m ++ range_with_len k n) (let e : a + 1 + m ≡ a + suc m = omega arith in e))
 
 -- nothing is found among the numbers below n + 1
 pub find_none_more : (p : ℕ → Bool) (n : ℕ) → find p (range_with_len 0 n) ≡ None → p n ≡ false → find p (range_with_len 0 (n + 1)) ≡ None

@@ -1,6 +1,6 @@
 -- What the writes of a new file leave, one after the other.
 use Rattle.std.proofs.Common.{◌≡◌, ℕ, zero, suc, ◌+◌, ◌-◌, ◌≤◌, List, [], ◌∷◌, ◌++◌, length, take, drop, replicate, refl, sym, ap, ◌∙◌, subst, arith, ◌⊎◌, inl, inr, ⊎_elim, append_assoc, append-nil, min}
-use Rattle.std.specs.Prelude.{Option, Some, None, Result, Ok, Err, IfSome, OnErr, IsTrue, Bool}
+use Rattle.std.specs.Prelude.{Option, Some, None, Result, Ok, Err, IsSomeAnd, OnErr, IsTrue, Bool}
 use Rattle.std.specs.Option.{unwrap_or}
 use Rattle.std.proofs.Math.Seq.{take-append_seam, drop-append-add, drop-append_seam, take-append-add}
 use Rattle.std.proofs.lemmas.List.{length-replicate, length-append, length-take, take_all, take-replicate, drop-replicate, drop-append-le}
@@ -81,7 +81,7 @@ elsewhere_twice : (name : List ℕ) (a b c : Files) → SameElsewhere name a b �
 elsewhere_twice name a b c e f other apart = f other apart ∙ e other apart
 
 pub begun : (header file : List ℕ) (old new : Option (List ℕ)) → new ≡ Some file → IsBegun header file → IsUnfinished header old new
-begun header file old new e b = inr (subst (λ (o : Option (List ℕ)). IfSome o (IsBegun header)) (sym e) b)
+begun header file old new e b = inr (subst (λ (o : Option (List ℕ)). IsSomeAnd o (IsBegun header)) (sym e) b)
 
 zeros_begun : (header file : List ℕ) (n : ℕ) → file ≡ zeros n → IsBegun header file
 zeros_begun header file n e = inl (ap (take 4096) e ∙ zeros_front 4096 n ∙ ap (λ xs. zeros (length (take 4096 xs))) (sym e))

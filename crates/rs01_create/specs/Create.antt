@@ -7,7 +7,7 @@ use Rattle.md5.specs.Md5.{md5}
 use Rattle.rs01_layers.specs.Sectors.{sectors_of, last_of, sector}
 use Rattle.rs01_layers.specs.Layout.{layers_of}
 use Rattle.rs01_sums.specs.Marker.{marker}
-use Rattle.rs01_create.specs.declared.report.CreateReport.{CreateReport}
+use Rattle.rs01_report.specs.declared.reports.CreateReport.{CreateReport}
 use Rattle.rs01_create.specs.declared.refusal.CreateRefusal.{CreateRefusal}
 use Rattle.rs01_create.specs.declared.refusal.CreateRefusal.TheVariants.{NoImage, EmptyImage, TooManySectors, Marker, ReadFault, WriteFault, OutOfMemory}
 

@@ -1,5 +1,5 @@
 -- What an attempt that failed may leave of the file that it was to make.
-use Rattle.std.specs.Prelude.{ℕ, ◌≡◌, ◌-◌, ◌⊎◌, List, ◌++◌, length, take, Option, IfSome}
+use Rattle.std.specs.Prelude.{ℕ, ◌≡◌, ◌-◌, ◌⊎◌, List, ◌++◌, length, take, Option, IsSomeAnd}
 use Rattle.rs01_ecchead.specs.Header.{zeros}
 
 -- a file whose first 4096 bytes, as far as they are there, are zeros, or first bytes of this header and then zeros
@@ -10,4 +10,4 @@ IsBegun header file =
 
 -- a file that is as before, or only begun
 abbrev pub IsUnfinished : List ℕ → Option (List ℕ) → Option (List ℕ) → Type 0
-IsUnfinished header old new = (new ≡ old) ⊎ IfSome new (IsBegun header)
+IsUnfinished header old new = (new ≡ old) ⊎ IsSomeAnd new (IsBegun header)

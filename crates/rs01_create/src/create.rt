@@ -12,11 +12,11 @@ use crate::header::head_of_image;
 use crate::image::Image;
 use crate::look::look;
 use crate::refusal::CreateRefusal;
-use crate::report::CreateReport;
 use crate::write::write_file;
 use md5::{Digest, Md5};
 use rs01_ecchead::write_head;
 use rs01_outside::{Desk, Failed};
+use rs01_report::CreateReport;
 use std::alloc::Global;
 
 // What is told of a new file.

@@ -1,13 +1,15 @@
 //! Making the error correction file of an image.
 #![tactic(auto)]
 
-pub mod body;
-pub mod create;
-pub mod header;
-pub mod image;
-pub mod look;
-pub mod marked;
-pub mod parity;
+mod body;
+mod create;
+mod header;
+mod image;
+mod look;
+mod marked;
+mod parity;
 mod refusal;
-pub mod report;
-pub mod write;
+mod write;
+
+pub use create::create_one;
+pub use refusal::CreateRefusal;
