@@ -1,0 +1,2 @@
+mod CreateRuns
+mod Prefixes

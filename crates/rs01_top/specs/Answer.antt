@@ -1,0 +1,89 @@
+-- What a run leaves, puts and answers: the sequential definition, from words and files alone.
+use Rattle.std.specs.Prelude.{ℕ, ◌≡◌, ◌⊎◌, List, Option, Some, None, IsSome, Result, Ok, Err}
+use Rattle.rs01_outside.specs.Files.{Files, Becomes, SameElsewhere, bytes_of}
+use Rattle.rs01_ecchead.specs.Header.{head_bytes}
+use Rattle.rs01_ecchead.specs.EccFile.{ecc_file, head_fields}
+use Rattle.rs01_create.specs.declared.refusal.CreateRefusal.{CreateRefusal}
+use Rattle.rs01_create.specs.Create.{refusal_of, report_of}
+use Rattle.rs01_create.specs.Unfinished.{IsUnfinished}
+use Rattle.rs01_report.specs.declared.faults.Fault.{Fault}
+use Rattle.rs01_report.specs.declared.faults.Fault.TheVariants as fault
+use Rattle.rs01_report.specs.Faults.{fault_line}
+use Rattle.rs01_report.specs.Texts.{create_lines}
+use Rattle.rs01_words.specs.declared.command.Command.{Command}
+use Rattle.rs01_words.specs.declared.command.Command.TheVariants as command
+use Rattle.rs01_words.specs.declared.fault.WordRefused.{WordRefused}
+use Rattle.rs01_words.specs.Line.{word_at}
+use Rattle.rs01_words.specs.Command.{words_of}
+use Rattle.rs01_top.specs.Faults.{word_fault, create_fault}
+
+-- nothing changes, the fault's line is put, and the status is its number
+pub record IsRefused (why : Fault) (number : ℕ) (old new : Files) (put : List ℕ) (status : ℕ) : Type 0 where
+  pub files : new ≡ old
+  pub line : put ≡ fault_line why
+  pub number_is : status ≡ number
+
+-- the error correction file of the image stands under its name, its report is put, and the status is 0
+pub record IsCreated (image ecc : List ℕ) (r : ℕ) (old new : Files) (put : List ℕ) (status : ℕ) : Type 0 where
+  pub files : Becomes ecc (ecc_file (bytes_of old image) r) old new
+  pub lines : put ≡ create_lines (report_of (bytes_of old image) r) ecc
+  pub number_is : status ≡ 0
+
+-- `create`: the first refusal that comes from the image, else the file
+abbrev pub CreateAnswer : Option CreateRefusal → (image ecc : List ℕ) → ℕ → Files → Files → List ℕ → ℕ → Type 0
+CreateAnswer None image ecc r old new put status = IsCreated image ecc r old new put status
+CreateAnswer (Some why) image ecc r old new put status = IsRefused (create_fault why) 3 old new put status
+
+-- what a command does; all but `create` are not built yet
+abbrev pub CommandAnswer : List (List ℕ) → Command → Files → Files → List ℕ → ℕ → Type 0
+CommandAnswer words (command.Create image ecc parity workers) old new put status =
+    CreateAnswer (refusal_of (old (word_at words image))) (word_at words image) (word_at words ecc) parity old new put status
+CommandAnswer words (command.Fix image ecc workers cut) old new put status = IsRefused fault.NotBuilt 2 old new put status
+CommandAnswer words (command.Verify image ecc) old new put status = IsRefused fault.NotBuilt 2 old new put status
+CommandAnswer words (command.Scan ecc drives) old new put status = IsRefused fault.NotBuilt 2 old new put status
+CommandAnswer words (command.Read image ecc drives adaptive jump tries workers) old new put status = IsRefused fault.NotBuilt 2 old new put status
+CommandAnswer words (command.Demo number sectors parity lost) old new put status = IsRefused fault.NotBuilt 2 old new put status
+
+abbrev pub AnswerTo : Result Command WordRefused → List (List ℕ) → Files → Files → List ℕ → ℕ → Type 0
+AnswerTo (Ok asked) words old new put status = CommandAnswer words asked old new put status
+AnswerTo (Err refused) words old new put status = IsRefused (word_fault refused) 2 old new put status
+
+-- the files that a run finds and leaves, the bytes that it puts and its status are those that the words ask for
+abbrev pub Answers : List (List ℕ) → Files → Files → List ℕ → ℕ → Type 0
+Answers words old new put status = AnswerTo (words_of words) words old new put status
+
+-- words that are answered by status 2: they are not in the grammar, or their command is not built yet
+abbrev pub IsNoWork : Result Command WordRefused → Type 0
+IsNoWork (Ok (command.Create image ecc parity workers)) = ⊥
+IsNoWork (Ok (command.Fix image ecc workers cut)) = Unit {0}
+IsNoWork (Ok (command.Verify image ecc)) = Unit {0}
+IsNoWork (Ok (command.Scan ecc drives)) = Unit {0}
+IsNoWork (Ok (command.Read image ecc drives adaptive jump tries workers)) = Unit {0}
+IsNoWork (Ok (command.Demo number sectors parity lost)) = Unit {0}
+IsNoWork (Err refused) = Unit {0}
+
+-- words that ask for a file of an image that can't be protected, or isn't there
+abbrev pub IsRefusedImage : Result Command WordRefused → List (List ℕ) → Files → Type 0
+IsRefusedImage (Ok (command.Create image ecc parity workers)) words files = IsSome (refusal_of (files (word_at words image)))
+IsRefusedImage (Ok (command.Fix image ecc workers cut)) words files = ⊥
+IsRefusedImage (Ok (command.Verify image ecc)) words files = ⊥
+IsRefusedImage (Ok (command.Scan ecc drives)) words files = ⊥
+IsRefusedImage (Ok (command.Read image ecc drives adaptive jump tries workers)) words files = ⊥
+IsRefusedImage (Ok (command.Demo number sectors parity lost)) words files = ⊥
+IsRefusedImage (Err refused) words files = ⊥
+
+-- what may stand after a fault or want of memory in `create`: no other file has changed, and the one under ECC is as
+-- before, begun, or whole
+pub record MayStandAfterCreate (image ecc : List ℕ) (r : ℕ) (old new : Files) : Type 0 where
+  pub elsewhere : SameElsewhere ecc old new
+  pub left : IsUnfinished (head_bytes (head_fields (bytes_of old image) r)) (old ecc) (new ecc) ⊎ (new ecc ≡ Some (ecc_file (bytes_of old image) r))
+
+-- what may stand after any run
+abbrev pub MayStand : Result Command WordRefused → List (List ℕ) → Files → Files → Type 0
+MayStand (Ok (command.Create image ecc parity workers)) words old new = MayStandAfterCreate (word_at words image) (word_at words ecc) parity old new
+MayStand (Ok (command.Fix image ecc workers cut)) words old new = new ≡ old
+MayStand (Ok (command.Verify image ecc)) words old new = new ≡ old
+MayStand (Ok (command.Scan ecc drives)) words old new = new ≡ old
+MayStand (Ok (command.Read image ecc drives adaptive jump tries workers)) words old new = new ≡ old
+MayStand (Ok (command.Demo number sectors parity lost)) words old new = new ≡ old
+MayStand (Err refused) words old new = new ≡ old

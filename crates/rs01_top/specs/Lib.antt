@@ -1,0 +1,3 @@
+pub mod Faults
+pub mod Answer
+pub mod Run

@@ -1,0 +1,78 @@
+-- What holds of a run, whatever happened in it: its answer, what may stand, and the cause of each status.
+use Rattle.std.specs.Prelude.{ℕ, ◌≡◌, ◌≢◌, ◌⊎◌, List, ◌++◌, take, Bool, IsTrue, IsSome, Result}
+use Rattle.rs01_outside.specs.Causes.{Rose}
+use Rattle.rs01_outside.specs.Files.{Files}
+use Rattle.rs01_report.specs.declared.faults.Fault.TheVariants as fault
+use Rattle.rs01_report.specs.Faults.{fault_line}
+use Rattle.rs01_words.specs.declared.command.Command.{Command}
+use Rattle.rs01_words.specs.declared.fault.WordRefused.{WordRefused}
+use Rattle.rs01_create.specs.Create.{refusal_of}
+use Rattle.rs01_top.specs.Answer.{AnswerTo, CreateAnswer, IsNoWork, IsRefusedImage, MayStand, MayStandAfterCreate}
+
+-- a status of a run that met no fault and no want of memory
+abbrev pub IsSettled : ℕ → Type 0
+IsSettled status = (status ≡ 0) ⊎ (status ≡ 2) ⊎ (status ≡ 3)
+
+-- the last line put is this fault's, where the sink tells
+abbrev pub TellsFault : Bool → List ℕ → List ℕ → List ℕ → Type 0
+TellsFault tells line taken taken' = IsTrue tells → taken' ≡ taken ++ line
+
+-- what was put is some first bytes of these, where the sink tells
+abbrev pub PutsPrefix : Bool → List ℕ → List ℕ → List ℕ → Type 0
+PutsPrefix tells line taken taken' = IsTrue tells → (kept : ℕ) × (taken' ≡ taken ++ take kept line)
+
+-- the counts of a desk and a sink before and after: read faults, write faults, and faults of output
+pub record Counts : Type 0 where
+  pub reads : ℕ
+  pub reads' : ℕ
+  pub writes : ℕ
+  pub writes' : ℕ
+  pub puts : ℕ
+  pub puts' : ℕ
+
+-- what holds of a run that makes the file of an image
+pub record IsCreateRun (image ecc : List ℕ) (r : ℕ) (desk_tells out_tells : Bool) (old new : Files) (taken taken' : List ℕ) (counts : Counts) (status : ℕ) : Type 0 where
+  -- the answer
+  pub answer : IsTrue desk_tells → IsSettled status
+      → (put : List ℕ) × CreateAnswer (refusal_of (old image)) image ecc r old new put status × TellsFault out_tells put taken taken'
+  -- after a fault of output alone, the files are those of the answer, and some first bytes of its text were put
+  pub unput : IsTrue desk_tells → status ≡ 6 → ¬ Rose counts.reads counts.reads' → ¬ Rose counts.writes counts.writes'
+      → (put : List ℕ) × (number : ℕ) × CreateAnswer (refusal_of (old image)) image ecc r old new put number × PutsPrefix out_tells put taken taken'
+  -- what may stand
+  pub stands : IsTrue desk_tells → MayStandAfterCreate image ecc r old new
+  -- the causes
+  pub some_work : status ≢ 2
+  pub refused_image : IsTrue desk_tells → IsSome (refusal_of (old image)) → (status ≡ 3) ⊎ (status ≡ 4) ⊎ (status ≡ 6) ⊎ (status ≡ 7)
+  pub only_refused_image : IsTrue desk_tells → status ≡ 3 → IsSome (refusal_of (old image))
+  pub files_fault : status ≡ 4
+      → (Rose counts.reads counts.reads' × TellsFault out_tells (fault_line fault.ReadFault) taken taken')
+      ⊎ (Rose counts.writes counts.writes' × TellsFault out_tells (fault_line fault.WriteFault) taken taken')
+  pub output : status ≡ 6 → Rose counts.puts counts.puts'
+  pub memory : status ≡ 7 → PutsPrefix out_tells (fault_line fault.OutOfMemory) taken taken'
+  -- no fault is passed over
+  pub quiet : IsSettled status → (counts.reads' ≡ counts.reads) × (counts.writes' ≡ counts.writes) × (counts.puts' ≡ counts.puts)
+  pub range : IsSettled status ⊎ (status ≡ 4) ⊎ (status ≡ 6) ⊎ (status ≡ 7)
+
+-- what holds of any run
+pub record IsRun (asked : Result Command WordRefused) (words : List (List ℕ)) (desk_tells out_tells : Bool) (old new : Files) (taken taken' : List ℕ) (counts : Counts) (status : ℕ) : Type 0 where
+  -- the answer
+  pub answer : IsTrue desk_tells → IsSettled status
+      → (put : List ℕ) × AnswerTo asked words old new put status × TellsFault out_tells put taken taken'
+  -- after a fault of output alone, the files are those of the answer, and some first bytes of its text were put
+  pub unput : IsTrue desk_tells → status ≡ 6 → ¬ Rose counts.reads counts.reads' → ¬ Rose counts.writes counts.writes'
+      → (put : List ℕ) × (number : ℕ) × AnswerTo asked words old new put number × PutsPrefix out_tells put taken taken'
+  -- what may stand
+  pub stands : IsTrue desk_tells → MayStand asked words old new
+  -- the causes
+  pub no_work : IsNoWork asked → (status ≡ 2) ⊎ (status ≡ 6) ⊎ (status ≡ 7)
+  pub only_no_work : status ≡ 2 → IsNoWork asked
+  pub refused_image : IsTrue desk_tells → IsRefusedImage asked words old → (status ≡ 3) ⊎ (status ≡ 4) ⊎ (status ≡ 6) ⊎ (status ≡ 7)
+  pub only_refused_image : IsTrue desk_tells → status ≡ 3 → IsRefusedImage asked words old
+  pub files_fault : status ≡ 4
+      → (Rose counts.reads counts.reads' × TellsFault out_tells (fault_line fault.ReadFault) taken taken')
+      ⊎ (Rose counts.writes counts.writes' × TellsFault out_tells (fault_line fault.WriteFault) taken taken')
+  pub output : status ≡ 6 → Rose counts.puts counts.puts'
+  pub memory : status ≡ 7 → PutsPrefix out_tells (fault_line fault.OutOfMemory) taken taken'
+  -- no fault is passed over
+  pub quiet : IsSettled status → (counts.reads' ≡ counts.reads) × (counts.writes' ≡ counts.writes) × (counts.puts' ≡ counts.puts)
+  pub range : IsSettled status ⊎ (status ≡ 4) ⊎ (status ≡ 6) ⊎ (status ≡ 7)

@@ -1,0 +1,54 @@
+//! Which fault a refusal is told as, and with which status.
+ghost use Rattle.std.specs.Prelude.{◌≡◌};
+ghost use Rattle.rs01_top.specs.Faults.{create_fault, create_status, word_fault};
+
+use rs01_create::CreateRefusal;
+use rs01_report::Fault;
+use rs01_words::{WordFault, WordRefused};
+
+// The fault of a word.
+pub fn word_fault(refused: WordRefused) -> Fault
+    ensures { result ≡ word_fault refused }
+{
+    let place = refused.place;
+    match refused.fault {
+        WordFault::NoCommand => Fault::NoCommand,
+        WordFault::UnknownCommand => Fault::UnknownCommand,
+        WordFault::UnknownOption => Fault::UnknownOption(place),
+        WordFault::Repeated => Fault::Repeated(place),
+        WordFault::NoValue => Fault::NoValue(place),
+        WordFault::BadNumber => Fault::BadNumber(place),
+        WordFault::OutOfRange => Fault::OutOfRange(place),
+        WordFault::Missing => Fault::Missing(place),
+        WordFault::SameName => Fault::SameName(place),
+    }
+}
+
+// The fault of a file that wasn't made.
+pub fn create_fault(why: CreateRefusal) -> Fault
+    ensures { result ≡ create_fault why }
+{
+    match why {
+        CreateRefusal::NoImage => Fault::NoImage,
+        CreateRefusal::EmptyImage => Fault::EmptyImage,
+        CreateRefusal::TooManySectors(sectors) => Fault::TooManySectors(sectors),
+        CreateRefusal::Marker(sector) => Fault::Marker(sector),
+        CreateRefusal::ReadFault => Fault::ReadFault,
+        CreateRefusal::WriteFault => Fault::WriteFault,
+        CreateRefusal::OutOfMemory => Fault::OutOfMemory,
+    }
+}
+
+// The status of a run that made no file.
+pub fn create_status(why: CreateRefusal) -> u8
+    ensures { result ≡ create_status why }
+{
+    match why {
+        CreateRefusal::NoImage
+        | CreateRefusal::EmptyImage
+        | CreateRefusal::TooManySectors(_)
+        | CreateRefusal::Marker(_) => 3,
+        CreateRefusal::ReadFault | CreateRefusal::WriteFault => 4,
+        CreateRefusal::OutOfMemory => 7,
+    }
+}

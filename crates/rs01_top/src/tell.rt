@@ -1,0 +1,46 @@
+//! Telling how a run ended.
+ghost use Rattle.std.specs.Prelude.{◌≡◌, ◌≢◌, ◌⊎◌, [], IsTrue};
+ghost use Rattle.rs01_outside.specs.Causes.{Rose};
+ghost use Rattle.rs01_report.specs.Faults.{fault_line};
+ghost use Rattle.rs01_report.specs.Texts.{create_lines};
+ghost use Rattle.rs01_top.specs.Run.{PutsPrefix, TellsFault};
+
+use rs01_outside::Sink;
+use rs01_report::{CreateReport, Fault, PutRefusal, put_create, put_fault};
+use std::alloc::Global;
+
+// Puts the line of a fault and gives its status. Where the line can't be put whole the status is 6, and 7 for want of
+// memory, which no other fault replaces.
+pub fn tell_fault<S: Sink>(alloc: Global, fault: &Fault, status: u8, out: &mut S) -> u8
+    ensures tells { S.tells out.new ≡ S.tells out.old }
+    ensures range { (result ≡ status) ⊎ (result ≡ 6) ⊎ (result ≡ 7) }
+    ensures memory_stays { status ≡ 7 → result ≡ 7 }
+    ensures whole { result ≡ status → status ≢ 6 → status ≢ 7 → TellsFault (S.tells out.old) (fault_line fault.now) (S.taken out.old) (S.taken out.new) }
+    ensures prefix { PutsPrefix (S.tells out.old) (fault_line fault.now) (S.taken out.old) (S.taken out.new) }
+    ensures nothing { status ≢ 7 → result ≡ 7 → TellsFault (S.tells out.old) [] (S.taken out.old) (S.taken out.new) }
+    ensures cause { status ≢ 6 → result ≡ 6 → Rose (S.faults out.old) (S.faults out.new) }
+    ensures quiet { result ≡ status → status ≢ 6 → status ≢ 7 → S.faults out.new ≡ S.faults out.old }
+{
+    match put_fault(alloc, fault, out) {
+        Ok(()) => status,
+        Err(PutRefusal::OutOfMemory) => 7,
+        Err(PutRefusal::SinkFault) => { if status == 7 { 7 } else { 6 } }
+    }
+}
+
+// Puts the report of a new file and gives the status.
+pub fn tell_created<S: Sink>(alloc: Global, report: &CreateReport, name: &str, out: &mut S) -> u8
+    ensures tells { S.tells out.new ≡ S.tells out.old }
+    ensures range { (result ≡ 0) ⊎ (result ≡ 6) ⊎ (result ≡ 7) }
+    ensures whole { result ≡ 0 → TellsFault (S.tells out.old) (create_lines report.now name.now) (S.taken out.old) (S.taken out.new) }
+    ensures prefix { PutsPrefix (S.tells out.old) (create_lines report.now name.now) (S.taken out.old) (S.taken out.new) }
+    ensures nothing { result ≡ 7 → TellsFault (S.tells out.old) [] (S.taken out.old) (S.taken out.new) }
+    ensures cause { result ≡ 6 → Rose (S.faults out.old) (S.faults out.new) }
+    ensures quiet { result ≡ 0 → S.faults out.new ≡ S.faults out.old }
+{
+    match put_create(alloc, report, name, out) {
+        Ok(()) => 0,
+        Err(PutRefusal::OutOfMemory) => 7,
+        Err(PutRefusal::SinkFault) => 6,
+    }
+}
