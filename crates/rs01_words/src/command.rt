@@ -1,12 +1,11 @@
 //! What the words ask for.
-ghost use Rattle.std.specs.Prelude.{◌≡◌, ◌<◌, ◌≤◌, ◌+◌, length, map, string_bytes, IsTrue};
-
 use crate::places::Places;
 
-/// A command with its names and numbers. A name is its word's place, counted from 0.
+/// A command with its names and numbers. A name is the place of its word, counted from 0.
 #[derive(Debug, Drop)]
 pub enum Command {
-    /// Make the error correction file `ecc` of `image`, with `parity` parity bytes in a codeword.
+    /// Make the error correction file `ecc` of `image`. `parity` is the parity bytes of a codeword,
+    /// 8 to 100, and `workers` the threads, 1 to 32.
     Create {
         image: usize,
         ecc: usize,
@@ -25,12 +24,13 @@ pub enum Command {
         image: usize,
         ecc: usize,
     },
-    /// Ask for every sector once.
+    /// Ask the drives for every sector.
     Scan {
         ecc: Option<usize>,
         drives: Places,
     },
-    /// Read a medium into `image`.
+    /// Read a medium into `image`. `jump` is in sectors, 1 to 1,048,576; `tries` is how often one
+    /// sector is asked for, 1 to 16.
     Read {
         image: usize,
         ecc: Option<usize>,
@@ -40,7 +40,8 @@ pub enum Command {
         tries: u32,
         workers: u32,
     },
-    /// Make an image from `number`, protect it, lose sectors and restore them.
+    /// Make an image of `sectors` sectors, 1 to 65,536, from `number`; protect it, lose the first
+    /// `lost` sectors and restore them.
     Demo {
         number: u64,
         sectors: u32,

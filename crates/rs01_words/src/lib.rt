@@ -17,6 +17,7 @@ pub use drives::drive_names;
 pub use fault::{WordFault, WordRefused};
 pub use places::Places;
 pub use read::read_words;
+pub use walk::word_at;
 
 #[cfg(test)]
 mod tests;

@@ -149,8 +149,14 @@ fn demo(words: &[String]) -> Command
     }
 }
 
-/// What the words ask for, or the first fault in them, by the grammar of the command line: a
-/// name in the answer is the place of its word, counted from 0.
+/// What the words ask for, or what is wrong with them: the first fault from left to right, then a
+/// plain word that is missing, then the comparison of `demo`, then equal names. The words are those
+/// after the program's own name. A fault stands with the place of its word, counted from 0; a
+/// missing word's place is the number of words.
+///
+/// `answer` says exactly which, by the grammar's definition. `within` says that each name is the
+/// place of a word and each number is in its range, `names` that image and error correction file
+/// have different names.
 pub fn read_words(words: &[String]) -> Result<Command, WordRefused>
     ensures answer { result ≡ words_of (map string_bytes words.now) }
     ensures within { IfOk result (IsWithin (length words.now)) }

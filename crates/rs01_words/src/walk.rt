@@ -1,4 +1,7 @@
 //! A walk over the words after the command, from left to right.
+//!
+//! No memory is taken: what is asked of a place again is found by another walk. The walk ends at the
+//! first fault, and words without one are a few dozen at most, so this costs little.
 ghost use Rattle.std.specs.Prelude.{◌≡◌, ◌+◌, ◌<◌, ◌≤◌, length, map, string_bytes, not, ◌&&◌, true, false, IfSome};
 ghost use Rattle.std.specs.Str.{bytes_eq};
 ghost use Rattle.std.specs.List.{slice_get};
