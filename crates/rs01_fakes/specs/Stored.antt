@@ -13,7 +13,7 @@ files_in map name = option_map (λ bytes. bytes.items) (get_by_text map name)
 abbrev pub IsWithin : Files → List ℕ → ℕ → ℕ → Type 0
 IsWithin files name at count = IsSomeAnd (files name) (λ bytes. at + count ≤ length bytes)
 
--- what a marked write leaves, whose mark is to keep nothing or so many first bytes: all as before, or these bytes in place. A write that grows may find no memory.
+-- what a marked write leaves: all as before where it is to keep nothing, and else its first bytes in place, or all as before where the file had to grow for them and found no memory
 abbrev pub KeepsPrefix : Files → Files → Option ℕ → List ℕ → ℕ → List ℕ → Type 0
 KeepsPrefix old new None name at bytes = new ≡ old
 KeepsPrefix old new (Some kept) name at bytes =

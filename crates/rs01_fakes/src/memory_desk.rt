@@ -131,7 +131,7 @@ fn write_kept(
     at: u64,
     bytes: &[u8],
 )
-    ensures left { KeepsPrefix (files_in files.old) (files_in files.new) kept name.now at bytes.now }
+    ensures { KeepsPrefix (files_in files.old) (files_in files.new) kept name.now at bytes.now }
 {
     match kept {
         Some(kept) => match stored::write(alloc, files, name, at, prefix(bytes, kept)) {
@@ -193,7 +193,8 @@ impl Desk for MemoryDesk {
         ensures within { IsTrue (not (write_is_marked (marks_of self.old)))
             → IsWithin (files_of self.old) name.now at (length bytes.now) → IsOk result }
         ensures kept { IsTrue (write_is_marked (marks_of self.old))
-            → KeepsPrefix (files_of self.old) (files_of self.new) (kept_of (marks_of self.old)) name.now at bytes.now }
+            → KeepsPrefix (files_of self.old) (files_of self.new) (kept_of (marks_of self.old))
+            name.now at bytes.now }
         ensures full { IsTrue (not (write_is_marked (marks_of self.old)))
             → OnErr result (files_of self.new ≡ files_of self.old) }
         ensures marks { marks_of self.new ≡ after_write (marks_of self.old) }
