@@ -16,7 +16,7 @@ use Rattle.rs01_report.specs.Faults.{fault_line}
 use Rattle.rs01_report.specs.Texts.{create_lines}
 use Rattle.rs01_top.specs.Faults.{create_fault, create_status}
 use Rattle.rs01_top.specs.Answer.{CreateAnswer, IsCreated, IsRefused}
-use Rattle.rs01_top.specs.Run.{Counts, IsCreateRun, IsSettled, PutsPrefix, TellsFault}
+use Rattle.rs01_top.specs.Run.{Counts, IsCreateRun, IsSettled, PutsPrefix, Telling, TellsFault}
 
 -- how the telling of a line with its status ended
 pub record IsTold (line : List ℕ) (wanted : ℕ) (tells : Bool) (taken taken' : List ℕ) (puts puts' : ℕ) (status : ℕ) : Type 0 where
@@ -50,8 +50,8 @@ created image ecc r dt ot old new t t' n status report accepted done reported re
     (record { files = done d; lines = ap (λ (p : CreateReport). create_lines p ecc) (reported d); number_is = refl }) in
     record {
       answer = λ d settled.
-        let zero : status ≡ 0 = settled_zero status settled told.range in
-        (create_lines report ecc, subst (λ (s : ℕ). CreateAnswer (refusal_of (old image)) image ecc r old new (create_lines report ecc) s) (sym zero) (right d), told.whole zero);
+          let zero : status ≡ 0 = settled_zero status settled told.range in
+          (create_lines report ecc, subst (λ (s : ℕ). CreateAnswer (refusal_of (old image)) image ecc r old new (create_lines report ecc) s) (sym zero) (right d), told.whole zero);
       unput = λ d six noreads nowrites. (create_lines report ecc, 0, right d, told.prefix);
       stands = λ d. record { elsewhere = (done d).elsewhere; left = inr (done d).there };
       some_work = λ two. grind (arith, told.range);
@@ -77,8 +77,8 @@ refused image ecc r dt ot old new t t' n status why refusal same reads writes to
     λ d. subst (λ (o : Option CreateRefusal). CreateAnswer o image ecc r old new line 3) (sym (refusal d)) (record { files = same d; line = refl; number_is = refl }) in
     record {
       answer = λ d settled.
-        let three : status ≡ 3 = settled_three status settled told.range in
-        (line, subst (λ (s : ℕ). CreateAnswer (refusal_of (old image)) image ecc r old new line s) (sym three) (right d), told.whole three);
+          let three : status ≡ 3 = settled_three status settled told.range in
+          (line, subst (λ (s : ℕ). CreateAnswer (refusal_of (old image)) image ecc r old new line s) (sym three) (right d), told.whole three);
       unput = λ d six noreads nowrites. (line, 3, right d, told.prefix);
       stands = λ d. record { elsewhere = λ other apart. ap (λ (f : Files). f other) (same d); left = inl (inl (ap (λ (f : Files). f ecc) (same d))) };
       some_work = λ two. grind (arith, told.range);
@@ -106,10 +106,10 @@ faulted image ecc r dt ot old new t t' n status line elsewhere left cause told =
   refused_image = λ d some. inr told.range;
   only_refused_image = λ d three. absurd (grind (arith, told.range));
   files_fault = λ four.
-    ⊎_elim
-    (λ p. inl (p.0, subst (λ (xs : List ℕ). TellsFault ot xs t t') p.1 (told.whole four)))
-    (λ p. inr (p.0, subst (λ (xs : List ℕ). TellsFault ot xs t t') p.1 (told.whole four)))
-    cause;
+      ⊎_elim
+      (λ p. inl (p.0, subst (λ (xs : List ℕ). TellsFault ot xs t t') p.1 (told.whole four)))
+      (λ p. inr (p.0, subst (λ (xs : List ℕ). TellsFault ot xs t t') p.1 (told.whole four)))
+      cause;
   output = told.cause;
   memory = λ seven o. (0, told.nothing seven o);
   quiet = λ settled. absurd (unsettled status settled told.range);
@@ -153,16 +153,6 @@ told_fault line wanted tells t t' puts puts' status six seven range whole prefix
   cause = cause six;
   quiet = λ e. quiet e six seven;
 }
-
--- what the telling of a fault promises
-pub record Telling (line : List ℕ) (wanted : ℕ) (tells : Bool) (taken taken' : List ℕ) (puts puts' : ℕ) (status : ℕ) : Type 0 where
-  pub range : (status ≡ wanted) ⊎ (status ≡ 6) ⊎ (status ≡ 7)
-  pub memory_stays : wanted ≡ 7 → status ≡ 7
-  pub whole : status ≡ wanted → wanted ≢ 6 → wanted ≢ 7 → TellsFault tells line taken taken'
-  pub prefix : PutsPrefix tells line taken taken'
-  pub nothing : wanted ≢ 7 → status ≡ 7 → TellsFault tells [] taken taken'
-  pub cause : wanted ≢ 6 → status ≡ 6 → Rose puts puts'
-  pub quiet : status ≡ wanted → wanted ≢ 6 → wanted ≢ 7 → puts' ≡ puts
 
 pub as_told : (line : List ℕ) (wanted : ℕ) (tells : Bool) (t t' : List ℕ) (puts puts' status : ℕ) → wanted ≢ 6 → wanted ≢ 7
     → Telling line wanted tells t t' puts puts' status → IsTold line wanted tells t t' puts puts' status

@@ -1,2 +1,3 @@
 mod CreateRuns
 mod Prefixes
+mod Runs

@@ -1,5 +1,5 @@
 -- What holds of a run, whatever happened in it: its answer, what may stand, and the cause of each status.
-use Rattle.std.specs.Prelude.{ℕ, ◌≡◌, ◌≢◌, ◌⊎◌, List, ◌++◌, take, Bool, IsTrue, IsSome, Result}
+use Rattle.std.specs.Prelude.{ℕ, ◌≡◌, ◌≢◌, ◌⊎◌, List, [], ◌++◌, take, Bool, IsTrue, IsSome, Result}
 use Rattle.rs01_outside.specs.Causes.{Rose}
 use Rattle.rs01_outside.specs.Files.{Files}
 use Rattle.rs01_report.specs.declared.faults.Fault.TheVariants as fault
@@ -20,6 +20,16 @@ TellsFault tells line taken taken' = IsTrue tells → taken' ≡ taken ++ line
 -- what was put is some first bytes of these, where the sink tells
 abbrev pub PutsPrefix : Bool → List ℕ → List ℕ → List ℕ → Type 0
 PutsPrefix tells line taken taken' = IsTrue tells → (kept : ℕ) × (taken' ≡ taken ++ take kept line)
+
+-- what the telling of a fault promises
+pub record Telling (line : List ℕ) (wanted : ℕ) (tells : Bool) (taken taken' : List ℕ) (puts puts' : ℕ) (status : ℕ) : Type 0 where
+  pub range : (status ≡ wanted) ⊎ (status ≡ 6) ⊎ (status ≡ 7)
+  pub memory_stays : wanted ≡ 7 → status ≡ 7
+  pub whole : status ≡ wanted → wanted ≢ 6 → wanted ≢ 7 → TellsFault tells line taken taken'
+  pub prefix : PutsPrefix tells line taken taken'
+  pub nothing : wanted ≢ 7 → status ≡ 7 → TellsFault tells [] taken taken'
+  pub cause : wanted ≢ 6 → status ≡ 6 → Rose puts puts'
+  pub quiet : status ≡ wanted → wanted ≢ 6 → wanted ≢ 7 → puts' ≡ puts
 
 -- the counts of a desk and a sink before and after: read faults, write faults, and faults of output
 pub record Counts : Type 0 where

@@ -12,33 +12,33 @@ returns-in-Ok-clause-run g c =
     created c.args.image.now c.args.ecc.now c.args.parity _ _ _ _ _ _ _ c.tell_created.result c.in-Ok.report
     (λ d. c.in-Ok.ensures.accepted d) (λ d. c.in-Ok.ensures.done d) (λ d. c.in-Ok.ensures.report d) (c.in-Ok.ensures.reads (λ e. cc)) (c.in-Ok.ensures.writes (λ e. cc))
     (record {
-    range = c.tell_created.ensures.range;
-    whole = c.tell_created.ensures.whole;
-    prefix = c.tell_created.ensures.prefix;
-    nothing = c.tell_created.ensures.nothing;
-    cause = c.tell_created.ensures.cause;
-    quiet = c.tell_created.ensures.quiet;
+      range = c.tell_created.ensures.range;
+      whole = c.tell_created.ensures.whole;
+      prefix = c.tell_created.ensures.prefix;
+      nothing = c.tell_created.ensures.nothing;
+      cause = c.tell_created.ensures.cause;
+      quiet = c.tell_created.ensures.quiet;
     })
 
 pub returns-in-Err-clause-run : goal.returns-in-Err-clause-run
 returns-in-Err-clause-run g c =
     not_made c.args.image.now c.args.ecc.now c.args.parity _ _ _ _ _ _ _ c.tell_fault.result c.in-Err.why
     (record {
-    refused = λ d. c.in-Err.ensures.refused d;
-    unchanged = λ d. c.in-Err.ensures.unchanged d;
-    elsewhere = λ d. c.in-Err.ensures.elsewhere d;
-    left = λ d. c.in-Err.ensures.left d;
-    read_fault = λ e. c.in-Err.ensures.read_fault (ap (λ (w : CreateRefusal). Err w) e);
-    write_fault = λ e. c.in-Err.ensures.write_fault (ap (λ (w : CreateRefusal). Err w) e);
-    reads = λ ne. c.in-Err.ensures.reads (λ e. ne cc);
-    writes = λ ne. c.in-Err.ensures.writes (λ e. ne cc);
+      refused = λ d. c.in-Err.ensures.refused d;
+      unchanged = λ d. c.in-Err.ensures.unchanged d;
+      elsewhere = λ d. c.in-Err.ensures.elsewhere d;
+      left = λ d. c.in-Err.ensures.left d;
+      read_fault = λ e. c.in-Err.ensures.read_fault (ap (λ (w : CreateRefusal). Err w) e);
+      write_fault = λ e. c.in-Err.ensures.write_fault (ap (λ (w : CreateRefusal). Err w) e);
+      reads = λ ne. c.in-Err.ensures.reads (λ e. ne cc);
+      writes = λ ne. c.in-Err.ensures.writes (λ e. ne cc);
     })
     (telling_of _ _ _ _ _ _ _ _ _ _ c.create_fault.ensures c.create_status.ensures (record {
-    range = c.tell_fault.ensures.range;
-    memory_stays = c.tell_fault.ensures.memory_stays;
-    whole = c.tell_fault.ensures.whole;
-    prefix = c.tell_fault.ensures.prefix;
-    nothing = c.tell_fault.ensures.nothing;
-    cause = c.tell_fault.ensures.cause;
-    quiet = c.tell_fault.ensures.quiet;
+      range = c.tell_fault.ensures.range;
+      memory_stays = c.tell_fault.ensures.memory_stays;
+      whole = c.tell_fault.ensures.whole;
+      prefix = c.tell_fault.ensures.prefix;
+      nothing = c.tell_fault.ensures.nothing;
+      cause = c.tell_fault.ensures.cause;
+      quiet = c.tell_fault.ensures.quiet;
     }))
