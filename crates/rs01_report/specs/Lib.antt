@@ -1,4 +1,5 @@
 pub mod Runs
+pub mod Maximal
 pub mod Texts
 pub mod Faults
 pub mod Causes

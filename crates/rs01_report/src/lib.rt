@@ -2,6 +2,7 @@
 #![tactic(auto)]
 
 pub mod faults;
+pub mod laws;
 pub mod lists;
 pub mod puts;
 pub mod reports;

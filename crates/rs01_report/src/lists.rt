@@ -100,7 +100,7 @@ fn push_ranges(out: &mut String, sectors: &[u32]) -> Result<(), AllocError>
 }
 
 /// Writes a rising list of sectors behind a text: its count, a colon, and its maximal runs of
-/// neighbours, as in `3: 3-4,9`, or `0: none`.
+/// neighbours, as in `3: 3-4,9`, or `0: none`. After an error some of it may stand there.
 pub fn push_list(out: &mut String, sectors: &[u32]) -> Result<(), AllocError>
     ensures { OnOk result (string_bytes out.new ≡ string_bytes out.old ++ list_text sectors.now) }
 {
