@@ -1,0 +1,55 @@
+//! The program: hands the words, the files of the system and the standard output to `run_one`, and ends with its status.
+//!
+//! Words that can't be had end it with status 8, and with 7 where memory ran out.
+#![tactic(auto)]
+
+use rs01_host::{FileDesk, StdSink};
+use rs01_top::run_one;
+use std::env;
+use std::io::{self, ErrorKind};
+use std::process::ExitCode;
+use std::rt::Env;
+
+const NO_MEMORY: u8 = 7;
+
+const NO_WORDS: u8 = 8;
+
+// The status of a run whose words can't be had.
+fn wordless(error: &io::Error) -> u8 {
+    if error.kind() == ErrorKind::OutOfMemory {
+        NO_MEMORY
+    } else {
+        NO_WORDS
+    }
+}
+
+// The words after the program's own name.
+fn words<R: Env + AllocGlobal>(rt: &R) -> Result<Vec<String>, u8> {
+    let all = match env::args(rt) {
+        Ok(all) => all,
+        Err(error) => return Err(wordless(&error)),
+    };
+    let mut words = Vec::new(rt.alloc());
+    for word in all.skip(1) {
+        if words.push(word).is_err() {
+            return Err(NO_MEMORY);
+        }
+    }
+    Ok(words)
+}
+
+fn main(rt: HostRuntime) -> ExitCode {
+    let words = match words(&rt) {
+        Ok(words) => words,
+        Err(status) => return ExitCode::from(status),
+    };
+    let Ok(files) = rt.clone() else {
+        return ExitCode::from(NO_MEMORY);
+    };
+    let Ok(output) = rt.clone() else {
+        return ExitCode::from(NO_MEMORY);
+    };
+    let mut desk = FileDesk::new(files);
+    let mut out = StdSink::new(output);
+    ExitCode::from(run_one(rt.alloc(), &words, &mut desk, &mut out))
+}
