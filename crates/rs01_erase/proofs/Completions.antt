@@ -1,12 +1,12 @@
 -- The completion of a word is the one codeword that agrees with it outside the erased places.
-use Rattle.std.proofs.Common.{◌≡◌, ◌≢◌, ℕ, zero, suc, ◌+◌, ◌^◌, ◌<◌, ◌≤◌, List, [], ◌∷◌, length, get_or, set, refl, sym, ap, ◌∙◌, arith, Bool, true, false, cond, ltb, eqb, eq-eqb, ⊎_elim, inl, inr, ◌⊎◌, Option, Some, None}
-use Rattle.std.specs.Prelude.{◌&&◌, All, Contains}
+use Rattle.std.proofs.Common.{◌≡◌, ◌≢◌, ℕ, zero, suc, ◌^◌, ◌<◌, ◌≤◌, List, [], ◌∷◌, length, get_or, set, refl, sym, ap, ◌∙◌, arith, Bool, true, false, cond, ltb, eqb, eq-eqb, ⊎_elim, inl, inr, ◌⊎◌, Option, Some, None}
+use Rattle.std.specs.Prelude.{◌&&◌}
 use Rattle.std.specs.List.{list_all, range_with_len}
 use Rattle.std.specs.List.Sorted.{IsStrictlyIncreasing}
 use Rattle.std.specs.Option.{option_or}
 use Rattle.std.proofs.lemmas.Bool.{and_parts, lt-ltb}
 use borrow.Author.Tests.{ltb-true, eqb-true}
-use Rattle.std.proofs.lemmas.List.{get_or-set_other, length-set}
+use Rattle.std.proofs.lemmas.List.{get_or-set_same, get_or-set_other, length-set}
 use Rattle.std.proofs.lemmas.List.Elements.{All-get_or, All-from_get_or}
 use Rattle.std.proofs.lemmas.List.FromFn.{length-range_with_len, get_or-range_with_len}
 use Rattle.std.proofs.lemmas.Grind.{same_number_lists}
@@ -156,3 +156,22 @@ completion-none w places r never = which (completion w places r) refl
 pub none-agrees : (w places : List ℕ) (r : ℕ) (c : List ℕ) → length w ≡ 255 → ((k : ℕ) → k < length places → get_or places k 0 < 255)
     → completion w places r ≡ None → IsCodeword c r → AgreeOutside c w places → ⊥
 none-agrees w places r c long below e code agree = some_completion w places r c long below code agree e
+
+-- the bytes at the erased places play no part
+pub completion-same : (w x places : List ℕ) (r : ℕ) → length w ≡ 255 → length x ≡ 255 → ((k : ℕ) → k < length places → get_or places k 0 < 255)
+    → AgreeOutside w x places → completion w places r ≡ completion x places r
+unfolding completion
+completion-same w x [] r lw lx below agree =
+    let same : w ≡ x = same_number_lists w x (lw ∙ sym lx) (λ k h. agree k (λ inside. absurd (omega (arith, inside.1)))) in
+    ap (λ l. completion l [] r) same
+completion-same w x (p ∷ places) r lw lx below agree =
+    let hp : p < 255 = below 0 (omega arith) in
+    let each : (v : ℕ) → completion (set w p v) places r ≡ completion (set x p v) places r = λ v.
+    completion-same (set w p v) (set x p v) places r (length-set w p v ∙ lw) (length-set x p v ∙ lx) (λ k h. below (suc k) (omega arith))
+    (later_outside (set w p v) x places p v (omega arith) (sym (get_or-set_same w p v 0 (omega arith))) (set_outside v)) in
+    (λ i. first_found (λ v. each v i) byte_values)
+  where
+    set_outside : (v : ℕ) → AgreeOutside (set w p v) x (p ∷ places)
+    set_outside v q out =
+        let ne : q ≢ p = λ same. out (0, (omega arith), sym same) in
+        get_or-set_other w p q v 0 ne ∙ agree q out

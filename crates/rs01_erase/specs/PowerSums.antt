@@ -1,7 +1,7 @@
 -- The equations that erased bytes solve. Each erased place has a locator x, and y is its byte times the 112th power of
 -- the locator; then the value of a word at root j is the sum of all y * x^j, added to the value that the word has with
 -- zeros at these places.
-use Rattle.std.specs.Prelude.{◌≡◌, ℕ, zero, suc, ◌+◌, ◌-◌, ◌*◌, ◌<◌, List, [], ◌∷◌, length, map, slice_index, bit_xor}
+use Rattle.std.specs.Prelude.{◌≡◌, ℕ, ◌-◌, ◌*◌, ◌<◌, List, [], ◌∷◌, length, map, slice_index, bit_xor}
 use Rattle.rs01_gf256.specs.Field.{times, power}
 
 -- the power of 2^11 that stands for a place of a codeword: its exponent is the number of places after it

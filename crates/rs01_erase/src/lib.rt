@@ -4,7 +4,11 @@
 //! of them are found again from the others. No call takes memory.
 #![tactic(auto)]
 
+pub mod laws;
 mod power_sums;
 mod restore;
 
 pub use restore::{EraseRefusal, restore_codeword};
+
+#[cfg(test)]
+mod tests;

@@ -10,13 +10,16 @@ ghost use Rattle.rs01_erase.specs.PowerSums.{locator, weighted};
 use crate::power_sums::solve;
 use rs01_gf256::{Gf, pow_root};
 use rs01_poly::eval;
+use thiserror::Error;
 
 /// Why a word is not restored.
-#[derive(Clone, Copy, PartialEq, Eq, Debug)]
+#[derive(Clone, Copy, PartialEq, Eq, Debug, Error)]
 pub enum EraseRefusal {
-    /// So many places are erased, and these are more than there are parity bytes.
+    /// So many places are erased, which is more than the number of parity bytes.
+    #[error("{0} places are erased, more than there are parity bytes")]
     Beyond(u32),
     /// No codeword has the word's bytes at the places that are not erased.
+    #[error("no codeword has the bytes at the places that are not erased")]
     Inconsistent,
 }
 
@@ -92,11 +95,12 @@ fn restore_within(word: &mut [u8; 255], erased: &[u8], sums: &mut [u8], locators
     true
 }
 
-/// Restores the bytes of a word at the erased places from the others, of which it is the one
-/// codeword with `r` parity bytes.
+/// Restores the bytes of a word at the erased places: afterwards the word is the one codeword with
+/// `r` parity bytes that has the same bytes at all other places.
 ///
-/// At most `r` places can be restored: where more are erased, `Beyond` tells their number. The other
-/// bytes may contradict each other, as no codeword has them all: then the answer is `Inconsistent`.
+/// The places count from 0 and rise. Two refusals leave the word as it was. The first that fits is
+/// told: `Beyond` where more than `r` places are erased, and `Inconsistent` where no codeword has
+/// the bytes at the other places.
 pub fn restore_codeword(word: &mut [u8; 255], erased: &[u8], r: u32) -> Result<(), EraseRefusal>
     requires rising { IsStrictlyIncreasing erased.now }
     requires below { All (λ p. p < 255) erased.now }
@@ -105,6 +109,8 @@ pub fn restore_codeword(word: &mut [u8; 255], erased: &[u8], r: u32) -> Result<(
     ensures beyond { (n : ℕ) → (result ≡ Err (EraseRefusal.Beyond n)) ↔ ((r < length erased.now) × (n ≡ length erased.now)) }
     ensures inconsistent { (result ≡ Err EraseRefusal.Inconsistent) ↔ ((length erased.now ≤ r) × (completion word.old erased.now r ≡ None)) }
     ensures restored { IsOk result → completion word.old erased.now r ≡ Some word.new }
+    ensures codeword { IsOk result → IsCodeword word.new r }
+    ensures kept { IsOk result → AgreeOutside word.new word.old erased.now }
     ensures unchanged { IsErr result → word.new ≡ word.old }
 {
     let count = erased.len();
@@ -113,7 +119,12 @@ pub fn restore_codeword(word: &mut [u8; 255], erased: &[u8], r: u32) -> Result<(
     }
     let mut sums = [0u8; 100];
     let mut locators = [0u8; 100];
-    if restore_within(word, erased, &mut sums[..r as usize], &mut locators[..count]) {
+    if restore_within(
+        word,
+        erased,
+        &mut sums[..r as usize],
+        &mut locators[..count],
+    ) {
         Ok(())
     } else {
         Err(EraseRefusal::Inconsistent)

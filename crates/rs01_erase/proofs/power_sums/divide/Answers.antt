@@ -3,7 +3,6 @@ use Rattle.std.proofs.lemmas.Bool.{cases_lt}
 use Rattle.std.proofs.lemmas.List.{get_or-set_same, get_or-set_other, length-set, take-set}
 use Rattle.rs01_gf256.specs.Field.{times}
 use Rattle.rs01_poly.proofs.Values.{AllBytes}
-use Rattle.rs01_poly.proofs.Vanish.{xor_same}
 use Rattle.rs01_erase.specs.PowerSums.{power_sum}
 use Rattle.rs01_erase.proofs.Elimination.{empty_sum, quotient, power_sum_more}
 use Rattle.rs01_erase.proofs.Places.{AllBytes-set}

@@ -1,12 +1,10 @@
 use Rattle.std.proofs.Common.{◌≡◌, ◌≢◌, ℕ, ◌+◌, ◌-◌, ◌*◌, ◌^◌, ◌<◌, ◌≤◌, List, length, get_or, set, map, sym, ap, ◌∙◌, arith, below_more}
-use Rattle.std.specs.Prelude.{Contains}
-use Rattle.std.specs.List.Sorted.{IsStrictlyIncreasing}
 use Rattle.std.proofs.lemmas.List.{get_or-set_same, get_or-set_other, get_or-map, length-map, get_or_default}
 use Rattle.std.proofs.lemmas.List.Elements.{All-get_or, All-from_get_or}
 use Rattle.std.proofs.lemmas.Grind.{same_number_lists}
 use Rattle.std.proofs.Math.Nat.{mul_assoc}
 use Rattle.rs01_gf256.specs.Field.{times, power}
-use Rattle.rs01_gf256.proofs.Logarithms.{power-power, power_below}
+use Rattle.rs01_gf256.proofs.Logarithms.{power-power}
 use Rattle.rs01_poly.specs.Code.{AgreeOutside}
 use Rattle.rs01_erase.specs.PowerSums.{locator, weighted}
 use Rattle.rs01_erase.proofs.Elimination.{quotient}

@@ -1,4 +1,4 @@
-use Rattle.std.proofs.Common.{◌≡◌, ◌≢◌, ℕ, ◌+◌, ◌-◌, ◌^◌, ◌<◌, ◌≤◌, List, length, get_or, map, take, sym, ap, ◌∙◌, arith, All, true, false, IsTrue, Some, None, bit_xor}
+use Rattle.std.proofs.Common.{◌≡◌, ℕ, ◌^◌, ◌<◌, ◌≤◌, List, length, get_or, map, take, sym, ap, ◌∙◌, arith, All, false, IsTrue, Some, None, bit_xor}
 use Rattle.std.specs.List.Sorted.{IsStrictlyIncreasing}
 use Rattle.std.specs.Int.Bits.{xor_self}
 use Rattle.std.proofs.lemmas.List.{get_or-map, length-map}
@@ -11,7 +11,7 @@ use Rattle.rs01_poly.proofs.Values.{AllBytes}
 use Rattle.rs01_erase.specs.Completion.{completion}
 use Rattle.rs01_erase.specs.PowerSums.{locator, weighted, power_sum, ArePowerSums}
 use Rattle.rs01_erase.proofs.Elimination.{bytes_of_all, moved}
-use Rattle.rs01_erase.proofs.Places.{Rises, rises, locator_below, locators_differ, value_by_places}
+use Rattle.rs01_erase.proofs.Places.{rises, locator_below, locators_differ, value_by_places}
 use Rattle.rs01_erase.proofs.Completions.{completion-is, completion-none}
 use Rattle.rs01_erase.proofs.restore.restore_within.Goals as goal
 
@@ -56,7 +56,7 @@ not_solved w u places sums locs r lu hu rising below zeros agree located long va
     let here : IsCodeword c (length sums) = rw long code in
     let count : length (weighted c places) ≡ length locs = length-weighted c places ∙ sym (length-map places locator) ∙ ap length (sym located) in
     let never = found (weighted c places) count (weighted_bytes c places (bytes_of_all c code.bytes))
-        (sums_of_codeword c u places sums locs lu hu rising below zeros located values here (λ p out. same p out ∙ sym (agree p out))) in
+    (sums_of_codeword c u places sums locs lu hu rising below zeros located values here (λ p out. same p out ∙ sym (agree p out))) in
     absurd (let contradiction : ⊥ = cc never in contradiction))
 
 solved : (w u c places sums new locs : List ℕ) (r : ℕ) → length w ≡ 255 → length u ≡ 255 → length c ≡ 255 → AllBytes u → All (λ b. b < 2 ^ 8) c
