@@ -14,8 +14,8 @@ use Rattle.rs01_report.specs.declared.faults.Fault.TheVariants as fault
 use Rattle.rs01_report.specs.Faults.{fault_line}
 use Rattle.rs01_report.specs.Texts.{create_lines}
 use Rattle.rs01_top.specs.Faults.{create_fault, create_status}
-use Rattle.rs01_top.specs.Answer.{CreateAnswer, IsCreated, IsRefused, MayStandAfterCreate}
-use Rattle.rs01_top.specs.Run.{Counts, IsCreateRun, IsSettled, PutsPrefix, Telling}
+use Rattle.rs01_top.specs.Answer.{CreateAnswer, MayStandAfterCreate}
+use Rattle.rs01_top.specs.Run.{Counts, IsCreateRun, Telling}
 use Rattle.rs01_top.proofs.RunLemmas.{IsTold, as_told, settled, faulted, out_of_memory}
 
 -- the file was made

@@ -2,3 +2,4 @@ mod CreateRuns
 mod Prefixes
 mod RunLemmas
 mod Runs
+mod VerifyRuns

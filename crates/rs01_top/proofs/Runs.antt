@@ -1,6 +1,6 @@
 -- What holds of a run, by what its words ask for.
-use Rattle.std.proofs.Common.{◌≡◌, ◌≢◌, ℕ, List, refl, sym, subst, arith, ◌⊎◌, inl, inr}
-use Rattle.std.specs.Prelude.{Bool, IsTrue, Result, Ok, Err}
+use Rattle.std.proofs.Common.{◌≡◌, ℕ, List, refl, sym, subst, arith, inl, inr}
+use Rattle.std.specs.Prelude.{Bool, Result, Ok, Err}
 use Rattle.rs01_outside.specs.Files.{Files}
 use Rattle.rs01_report.specs.declared.faults.Fault.{Fault}
 use Rattle.rs01_report.specs.declared.faults.Fault.TheVariants as fault
@@ -11,7 +11,7 @@ use Rattle.rs01_words.specs.declared.fault.WordRefused.{WordRefused}
 use Rattle.rs01_words.specs.Line.{word_at}
 use Rattle.rs01_top.specs.Faults.{word_fault}
 use Rattle.rs01_top.specs.Answer.{AnswerTo, IsNoWork, IsRefusedByFiles, MayStand}
-use Rattle.rs01_top.specs.Run.{Counts, IsCreateRun, IsRun, Telling}
+use Rattle.rs01_top.specs.Run.{Counts, IsCreateRun, IsRun, IsVerifyRun, Telling}
 use Rattle.rs01_top.proofs.RunLemmas.{as_told, settled}
 
 -- words for which nothing is done
@@ -44,9 +44,7 @@ of_command (command.Create image ecc parity workers) words dt ot old t t' n stat
 of_command (command.Fix image ecc workers cut) words dt ot old t t' n status none reads writes told =
     no_work (Ok (command.Fix image ecc workers cut)) words fault.NotBuilt dt ot old t t' n status tt
     (record { files = refl; line = refl; number_is = refl }) refl (λ h. h) reads writes told
-of_command (command.Verify image ecc) words dt ot old t t' n status none reads writes told =
-    no_work (Ok (command.Verify image ecc)) words fault.NotBuilt dt ot old t t' n status tt
-    (record { files = refl; line = refl; number_is = refl }) refl (λ h. h) reads writes told
+of_command (command.Verify image ecc) words dt ot old t t' n status none reads writes told = absurd none
 of_command (command.Scan ecc drives) words dt ot old t t' n status none reads writes told =
     no_work (Ok (command.Scan ecc drives)) words fault.NotBuilt dt ot old t t' n status tt
     (record { files = refl; line = refl; number_is = refl }) refl (λ h. h) reads writes told
@@ -68,4 +66,17 @@ create_run asked image ecc parity workers image_name ecc_name words dt ot old ne
     let run : IsCreateRun (word_at words image) (word_at words ecc) parity dt ot old new t t' n status =
     subst (λ (x : List ℕ). IsCreateRun x (word_at words ecc) parity dt ot old new t t' n status) i
     (subst (λ (x : List ℕ). IsCreateRun image_name x parity dt ot old new t t' n status) f made) in
+    subst (λ (a : Command). IsRun (Ok a) words dt ot old new t t' n status) (sym e) run
+
+-- and so are those of `verify`
+pub verify_run : (asked : Command) (image ecc : ℕ) (image_name ecc_name : List ℕ) (words : List (List ℕ)) (dt ot : Bool) (old new : Files) (t t' : List ℕ)
+    (n : Counts) (status : ℕ)
+    → asked ≡ command.Verify image ecc
+    → image_name ≡ word_at words image → ecc_name ≡ word_at words ecc
+    → IsVerifyRun image_name ecc_name dt ot old new t t' n status
+    → IsRun (Ok asked) words dt ot old new t t' n status
+verify_run asked image ecc image_name ecc_name words dt ot old new t t' n status e i f checked =
+    let run : IsVerifyRun (word_at words image) (word_at words ecc) dt ot old new t t' n status =
+    subst (λ (x : List ℕ). IsVerifyRun x (word_at words ecc) dt ot old new t t' n status) i
+    (subst (λ (x : List ℕ). IsVerifyRun image_name x dt ot old new t t' n status) f checked) in
     subst (λ (a : Command). IsRun (Ok a) words dt ot old new t t' n status) (sym e) run

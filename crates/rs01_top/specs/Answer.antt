@@ -1,5 +1,5 @@
 -- What a run leaves, puts and answers: the sequential definition, from words and files alone.
-use Rattle.std.specs.Prelude.{ℕ, ◌≡◌, ◌⊎◌, List, Option, Some, None, IsSome, Result, Ok, Err}
+use Rattle.std.specs.Prelude.{ℕ, ◌≡◌, ◌==◌, ◌&&◌, ◌⊎◌, Bool, true, false, if◌then◌else◌, List, length, Option, Some, None, IsSome, Result, Ok, Err, IsErr}
 use Rattle.rs01_outside.specs.Files.{Files, Becomes, SameElsewhere, bytes_of}
 use Rattle.rs01_ecchead.specs.Header.{head_bytes}
 use Rattle.rs01_ecchead.specs.EccFile.{ecc_file, head_fields}
@@ -9,13 +9,18 @@ use Rattle.rs01_create.specs.Unfinished.{IsUnfinished}
 use Rattle.rs01_report.specs.declared.faults.Fault.{Fault}
 use Rattle.rs01_report.specs.declared.faults.Fault.TheVariants as fault
 use Rattle.rs01_report.specs.Faults.{fault_line}
-use Rattle.rs01_report.specs.Texts.{create_lines}
+use Rattle.rs01_report.specs.Texts.{create_lines, verify_lines}
+use Rattle.rs01_report.specs.declared.reports.Mark.{Mark}
+use Rattle.rs01_report.specs.declared.reports.Mark.TheVariants.{Absent, Differs, Matches}
+use Rattle.rs01_report.specs.declared.reports.VerifyReport.{VerifyReport}
+use Rattle.rs01_verify.specs.Answer.{verify_answer}
+use Rattle.rs01_verify.specs.declared.refusal.VerifyRefusal.{VerifyRefusal}
 use Rattle.rs01_words.specs.declared.command.Command.{Command}
 use Rattle.rs01_words.specs.declared.command.Command.TheVariants as command
 use Rattle.rs01_words.specs.declared.fault.WordRefused.{WordRefused}
 use Rattle.rs01_words.specs.Line.{word_at}
 use Rattle.rs01_words.specs.Command.{words_of}
-use Rattle.rs01_top.specs.Faults.{word_fault, create_fault}
+use Rattle.rs01_top.specs.Faults.{create_fault, verify_fault, word_fault}
 
 -- nothing changes, the fault's line is put, and the status is its number
 pub record IsRefused (why : Fault) (number : ℕ) (old new : Files) (put : List ℕ) (status : ℕ) : Type 0 where
@@ -34,12 +39,33 @@ abbrev pub CreateAnswer : Option CreateRefusal → (image ecc : List ℕ) → �
 CreateAnswer None image ecc r old new put status = IsCreated image ecc r old new put status
 CreateAnswer (Some why) image ecc r old new put status = IsRefused (create_fault why) 3 old new put status
 
--- what a command does; all but `create` are not built yet
+abbrev pub is_match : Mark → Bool
+is_match Matches = true
+is_match Differs = false
+is_match Absent = false
+
+-- 0 exactly where no sector is missing or altered and the image has the recorded digest
+abbrev pub checked_status : VerifyReport → ℕ
+checked_status report = if (length report.missing == 0) && ((length report.altered == 0) && is_match report.image) then 0 else 1
+
+-- no file changes, and the report of the check is put
+pub record IsChecked (report : VerifyReport) (image : List ℕ) (old new : Files) (put : List ℕ) (status : ℕ) : Type 0 where
+  pub files : new ≡ old
+  pub lines : put ≡ verify_lines report image
+  pub number_is : status ≡ checked_status report
+
+-- `verify`: the first refusal that comes from the files, else the report
+abbrev pub VerifyAnswer : Result VerifyReport VerifyRefusal → List ℕ → Files → Files → List ℕ → ℕ → Type 0
+VerifyAnswer (Ok report) image old new put status = IsChecked report image old new put status
+VerifyAnswer (Err why) image old new put status = IsRefused (verify_fault why) 3 old new put status
+
+-- what a command does; all but `create` and `verify` are not built yet
 abbrev pub CommandAnswer : List (List ℕ) → Command → Files → Files → List ℕ → ℕ → Type 0
 CommandAnswer words (command.Create image ecc parity workers) old new put status =
     CreateAnswer (refusal_of (old (word_at words image))) (word_at words image) (word_at words ecc) parity old new put status
 CommandAnswer words (command.Fix image ecc workers cut) old new put status = IsRefused fault.NotBuilt 2 old new put status
-CommandAnswer words (command.Verify image ecc) old new put status = IsRefused fault.NotBuilt 2 old new put status
+CommandAnswer words (command.Verify image ecc) old new put status =
+    VerifyAnswer (verify_answer (old (word_at words ecc)) (old (word_at words image))) (word_at words image) old new put status
 CommandAnswer words (command.Scan ecc drives) old new put status = IsRefused fault.NotBuilt 2 old new put status
 CommandAnswer words (command.Read image ecc drives adaptive jump tries workers) old new put status = IsRefused fault.NotBuilt 2 old new put status
 CommandAnswer words (command.Demo number sectors parity lost) old new put status = IsRefused fault.NotBuilt 2 old new put status
@@ -56,17 +82,18 @@ Answers words old new put status = AnswerTo (words_of words) words old new put s
 abbrev pub IsNoWork : Result Command WordRefused → Type 0
 IsNoWork (Ok (command.Create image ecc parity workers)) = ⊥
 IsNoWork (Ok (command.Fix image ecc workers cut)) = Unit {0}
-IsNoWork (Ok (command.Verify image ecc)) = Unit {0}
+IsNoWork (Ok (command.Verify image ecc)) = ⊥
 IsNoWork (Ok (command.Scan ecc drives)) = Unit {0}
 IsNoWork (Ok (command.Read image ecc drives adaptive jump tries workers)) = Unit {0}
 IsNoWork (Ok (command.Demo number sectors parity lost)) = Unit {0}
 IsNoWork (Err refused) = Unit {0}
 
--- words whose work the files forbid, as that on an image that can't be protected or isn't there
+-- words whose work the files forbid: an image that can't be protected or isn't there, or an error correction file that
+-- isn't there or is damaged
 abbrev pub IsRefusedByFiles : Result Command WordRefused → List (List ℕ) → Files → Type 0
 IsRefusedByFiles (Ok (command.Create image ecc parity workers)) words files = IsSome (refusal_of (files (word_at words image)))
 IsRefusedByFiles (Ok (command.Fix image ecc workers cut)) words files = ⊥
-IsRefusedByFiles (Ok (command.Verify image ecc)) words files = ⊥
+IsRefusedByFiles (Ok (command.Verify image ecc)) words files = IsErr (verify_answer (files (word_at words ecc)) (files (word_at words image)))
 IsRefusedByFiles (Ok (command.Scan ecc drives)) words files = ⊥
 IsRefusedByFiles (Ok (command.Read image ecc drives adaptive jump tries workers)) words files = ⊥
 IsRefusedByFiles (Ok (command.Demo number sectors parity lost)) words files = ⊥

@@ -7,6 +7,12 @@ use Rattle.rs01_words.specs.declared.fault.WordFault.TheVariants as word
 use Rattle.rs01_words.specs.declared.fault.WordRefused.{WordRefused}
 use Rattle.rs01_create.specs.declared.refusal.CreateRefusal.{CreateRefusal}
 use Rattle.rs01_create.specs.declared.refusal.CreateRefusal.TheVariants as create
+use Rattle.rs01_ecchead.specs.declared.head.HeadRefusal.{HeadRefusal}
+use Rattle.rs01_ecchead.specs.declared.head.HeadRefusal.TheVariants as head
+use Rattle.rs01_ecchead.specs.declared.opened.Which.{Which}
+use Rattle.rs01_ecchead.specs.declared.opened.Which.TheVariants as which
+use Rattle.rs01_verify.specs.declared.refusal.VerifyRefusal.{VerifyRefusal}
+use Rattle.rs01_verify.specs.declared.refusal.VerifyRefusal.TheVariants as verify
 
 -- a fault in the word at a place
 abbrev pub fault_at : WordFault → ℕ → Fault
@@ -42,3 +48,34 @@ create_status (create.Marker s) = 3
 create_status create.ReadFault = 4
 create_status create.WriteFault = 4
 create_status create.OutOfMemory = 7
+
+-- which file isn't there
+abbrev pub absent_fault : Which → Fault
+absent_fault which.Ecc = fault.NoEcc
+absent_fault which.Image = fault.NoImage
+
+-- why a header is refused
+abbrev pub head_fault : HeadRefusal → Fault
+head_fault head.Cookie = fault.Cookie
+head_fault head.Method = fault.Method
+head_fault head.Version = fault.Version
+head_fault head.Sectors = fault.Sectors
+head_fault head.Parity = fault.Parity
+head_fault head.LastBytes = fault.LastBytes
+
+-- why an image wasn't checked
+abbrev pub verify_fault : VerifyRefusal → Fault
+verify_fault (verify.NoFile which) = absent_fault which
+verify_fault (verify.Head why) = head_fault why
+verify_fault (verify.Size have want) = fault.Size have want
+verify_fault (verify.Body have want) = fault.Body have want
+verify_fault verify.ReadFault = fault.ReadFault
+verify_fault verify.OutOfMemory = fault.OutOfMemory
+
+abbrev pub verify_status : VerifyRefusal → ℕ
+verify_status (verify.NoFile which) = 3
+verify_status (verify.Head why) = 3
+verify_status (verify.Size have want) = 3
+verify_status (verify.Body have want) = 3
+verify_status verify.ReadFault = 4
+verify_status verify.OutOfMemory = 7

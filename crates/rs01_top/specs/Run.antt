@@ -1,5 +1,5 @@
 -- What holds of a run, whatever happened in it: its answer, what may stand, and the cause of each status.
-use Rattle.std.specs.Prelude.{ℕ, ◌≡◌, ◌≢◌, ◌⊎◌, List, [], ◌++◌, take, Bool, IsTrue, IsSome, Result}
+use Rattle.std.specs.Prelude.{ℕ, ◌≡◌, ◌≢◌, ◌⊎◌, List, [], ◌++◌, take, Bool, IsTrue, IsErr, IsSome, Result}
 use Rattle.rs01_outside.specs.Causes.{Rose}
 use Rattle.rs01_outside.specs.Files.{Files}
 use Rattle.rs01_report.specs.declared.faults.Fault.TheVariants as fault
@@ -7,7 +7,8 @@ use Rattle.rs01_report.specs.Faults.{fault_line}
 use Rattle.rs01_words.specs.declared.command.Command.{Command}
 use Rattle.rs01_words.specs.declared.fault.WordRefused.{WordRefused}
 use Rattle.rs01_create.specs.Create.{refusal_of}
-use Rattle.rs01_top.specs.Answer.{AnswerTo, CreateAnswer, IsNoWork, IsRefusedByFiles, MayStand, MayStandAfterCreate}
+use Rattle.rs01_verify.specs.Answer.{verify_answer}
+use Rattle.rs01_top.specs.Answer.{AnswerTo, CreateAnswer, IsNoWork, IsRefusedByFiles, MayStand, MayStandAfterCreate, VerifyAnswer}
 
 -- a status of a run that met no fault and no want of memory
 abbrev pub IsSettled : ℕ → Type 0
@@ -68,6 +69,12 @@ pub record IsRunOf (right : List ℕ → ℕ → Type 0) (stands no_work refused
 abbrev pub IsCreateRun : (image ecc : List ℕ) → ℕ → Bool → Bool → Files → Files → List ℕ → List ℕ → Counts → ℕ → Type 0
 IsCreateRun image ecc r desk_tells out_tells old new taken taken' counts status =
     IsRunOf (CreateAnswer (refusal_of (old image)) image ecc r old new) (MayStandAfterCreate image ecc r old new) ⊥ (IsSome (refusal_of (old image)))
+    desk_tells out_tells taken taken' counts status
+
+-- a run that checks an image; it changes no file
+abbrev pub IsVerifyRun : (image ecc : List ℕ) → Bool → Bool → Files → Files → List ℕ → List ℕ → Counts → ℕ → Type 0
+IsVerifyRun image ecc desk_tells out_tells old new taken taken' counts status =
+    IsRunOf (VerifyAnswer (verify_answer (old ecc) (old image)) image old new) (new ≡ old) ⊥ (IsErr (verify_answer (old ecc) (old image)))
     desk_tells out_tells taken taken' counts status
 
 -- a run that does what was asked for by words

@@ -1,9 +1,11 @@
 //! Which fault a refusal is told as, and with which status.
 ghost use Rattle.std.specs.Prelude.{◌≡◌};
-ghost use Rattle.rs01_top.specs.Faults.{create_fault, create_status, word_fault};
+ghost use Rattle.rs01_top.specs.Faults.{absent_fault, create_fault, create_status, head_fault, verify_fault, verify_status, word_fault};
 
 use rs01_create::CreateRefusal;
+use rs01_ecchead::{HeadRefusal, Which};
 use rs01_report::Fault;
+use rs01_verify::VerifyRefusal;
 use rs01_words::{WordFault, WordRefused};
 
 // The fault of a word.
@@ -50,5 +52,57 @@ pub fn create_status(why: CreateRefusal) -> u8
         | CreateRefusal::Marker(_) => 3,
         CreateRefusal::ReadFault | CreateRefusal::WriteFault => 4,
         CreateRefusal::OutOfMemory => 7,
+    }
+}
+
+// The fault of a file that isn't there.
+pub fn absent_fault(which: Which) -> Fault
+    ensures { result ≡ absent_fault which }
+{
+    match which {
+        Which::Ecc => Fault::NoEcc,
+        Which::Image => Fault::NoImage,
+    }
+}
+
+// The fault of a header.
+pub fn head_fault(why: HeadRefusal) -> Fault
+    ensures { result ≡ head_fault why }
+{
+    match why {
+        HeadRefusal::Cookie => Fault::Cookie,
+        HeadRefusal::Method => Fault::Method,
+        HeadRefusal::Version => Fault::Version,
+        HeadRefusal::Sectors => Fault::Sectors,
+        HeadRefusal::Parity => Fault::Parity,
+        HeadRefusal::LastBytes => Fault::LastBytes,
+    }
+}
+
+// The fault of an image that wasn't checked.
+pub fn verify_fault(why: VerifyRefusal) -> Fault
+    ensures { result ≡ verify_fault why }
+{
+    match why {
+        VerifyRefusal::NoFile(which) => absent_fault(which),
+        VerifyRefusal::Head(why) => head_fault(why),
+        VerifyRefusal::Size { have, want } => Fault::Size(have, want),
+        VerifyRefusal::Body { have, want } => Fault::Body(have, want),
+        VerifyRefusal::ReadFault => Fault::ReadFault,
+        VerifyRefusal::OutOfMemory => Fault::OutOfMemory,
+    }
+}
+
+// The status of a run that checked no image.
+pub fn verify_status(why: VerifyRefusal) -> u8
+    ensures { result ≡ verify_status why }
+{
+    match why {
+        VerifyRefusal::NoFile(_)
+        | VerifyRefusal::Head(_)
+        | VerifyRefusal::Size { .. }
+        | VerifyRefusal::Body { .. } => 3,
+        VerifyRefusal::ReadFault => 4,
+        VerifyRefusal::OutOfMemory => 7,
     }
 }

@@ -4,13 +4,14 @@ ghost use Rattle.rs01_words.specs.Command.{IsWithin, NamesDiffer, words_of};
 ghost use Rattle.rs01_outside.specs.Causes.{Rose};
 ghost use Rattle.rs01_report.specs.Faults.{fault_line};
 ghost use Rattle.rs01_top.specs.Answer.{Answers, IsNoWork, IsRefusedByFiles, MayStand};
-ghost use Rattle.rs01_top.specs.Run.{IsCreateRun, IsRun, IsSettled, PutsPrefix, Telling, TellsFault};
+ghost use Rattle.rs01_top.specs.Run.{IsCreateRun, IsRun, IsSettled, IsVerifyRun, PutsPrefix, Telling, TellsFault};
 
-use crate::faults::{create_fault, create_status, word_fault};
-use crate::tell::{tell_created, tell_fault};
+use crate::faults::{create_fault, create_status, verify_fault, verify_status, word_fault};
+use crate::tell::{tell_checked, tell_created, tell_fault};
 use rs01_create::create_one;
 use rs01_outside::{Desk, Sink};
 use rs01_report::Fault;
+use rs01_verify::verify;
 use rs01_words::{Command, read_words, word_at};
 use std::alloc::Global;
 
@@ -41,6 +42,26 @@ fn create<D: Desk, S: Sink>(
     match create_one(alloc, desk, image, ecc, parity) {
         Ok(report) => tell_created(alloc, &report, ecc, out),
         Err(why) => tell_fault(alloc, &create_fault(why), create_status(why), out),
+    }
+}
+
+// Checks an image against its error correction file, and tells what was found.
+fn check<D: Desk, S: Sink>(alloc: Global, desk: &mut D, image: &str, ecc: &str, out: &mut S) -> u8
+    ensures desk_tells { D.tells desk.new ≡ D.tells desk.old }
+    ensures out_tells { S.tells out.new ≡ S.tells out.old }
+    ensures run { IsVerifyRun image.now ecc.now (D.tells desk.old) (S.tells out.old) (D.files desk.old) (D.files desk.new) (S.taken out.old) (S.taken out.new)
+        record {
+          reads = D.read_faults desk.old;
+          reads' = D.read_faults desk.new;
+          writes = D.write_faults desk.old;
+          writes' = D.write_faults desk.new;
+          puts = S.faults out.old;
+          puts' = S.faults out.new;
+        } result }
+{
+    match verify(alloc, desk, image, ecc) {
+        Ok(report) => tell_checked(alloc, &report, image, out),
+        Err(why) => tell_fault(alloc, &verify_fault(why), verify_status(why), out),
     }
 }
 
@@ -89,7 +110,13 @@ fn carry_out<D: Desk, S: Sink>(
             out,
         ),
         Command::Fix { .. } => not_built(alloc, out),
-        Command::Verify { .. } => not_built(alloc, out),
+        Command::Verify { image, ecc } => check(
+            alloc,
+            desk,
+            word_at(words, *image),
+            word_at(words, *ecc),
+            out,
+        ),
         Command::Scan { .. } => not_built(alloc, out),
         Command::Read { .. } => not_built(alloc, out),
         Command::Demo { .. } => not_built(alloc, out),
@@ -121,9 +148,10 @@ fn answer<D: Desk, S: Sink>(alloc: Global, words: &[String], desk: &mut D, out: 
 ///
 /// | Status | Where |
 /// |---|---|
-/// | 0 | the command was done |
+/// | 0 | the command was done, and `verify` found no sector missing or altered and the image's digest to match |
+/// | 1 | `verify` was done, and found otherwise |
 /// | 2 | the words aren't in the grammar, or their command isn't built yet |
-/// | 3 | the image isn't there, is empty, has too many sectors, or has a sector that is marked as missing |
+/// | 3 | the image isn't there, is empty, has too many sectors, or has a sector that is marked as missing; or the error correction file isn't there or is damaged |
 /// | 4 | a file could not be read or written |
 /// | 6 | the output could not be put |
 /// | 7 | memory ran out |

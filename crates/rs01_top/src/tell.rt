@@ -2,11 +2,14 @@
 ghost use Rattle.std.specs.Prelude.{◌≡◌, ◌≢◌, ◌⊎◌, [], IsTrue};
 ghost use Rattle.rs01_outside.specs.Causes.{Rose};
 ghost use Rattle.rs01_report.specs.Faults.{fault_line};
-ghost use Rattle.rs01_report.specs.Texts.{create_lines};
+ghost use Rattle.rs01_report.specs.Texts.{create_lines, verify_lines};
+ghost use Rattle.rs01_top.specs.Answer.{checked_status, is_match};
 ghost use Rattle.rs01_top.specs.Run.{PutsPrefix, TellsFault};
 
 use rs01_outside::Sink;
-use rs01_report::{CreateReport, Fault, PutRefusal, put_create, put_fault};
+use rs01_report::{
+    CreateReport, Fault, Mark, PutRefusal, VerifyReport, put_create, put_fault, put_verify,
+};
 use std::alloc::Global;
 
 // Puts the line of a fault and gives its status. Where the line can't be put whole the status is 6, and 7 for want of
@@ -40,6 +43,47 @@ pub fn tell_created<S: Sink>(alloc: Global, report: &CreateReport, name: &str, o
 {
     match put_create(alloc, report, name, out) {
         Ok(()) => 0,
+        Err(PutRefusal::OutOfMemory) => 7,
+        Err(PutRefusal::SinkFault) => 6,
+    }
+}
+
+// Whether a digest is the recorded one.
+fn is_match(mark: Mark) -> bool
+    ensures { result ≡ is_match mark }
+{
+    match mark {
+        Mark::Matches => true,
+        Mark::Differs => false,
+        Mark::Absent => false,
+    }
+}
+
+// The status of a check: 0 where no sector is missing or altered and the image has the recorded digest.
+fn checked_status(report: &VerifyReport) -> u8
+    ensures { result ≡ checked_status report.now }
+{
+    let missing = report.missing.len();
+    let altered = report.altered.len();
+    if missing == 0 && (altered == 0 && is_match(report.image)) {
+        0
+    } else {
+        1
+    }
+}
+
+// Puts the report of a check and gives the status.
+pub fn tell_checked<S: Sink>(alloc: Global, report: &VerifyReport, name: &str, out: &mut S) -> u8
+    ensures tells { S.tells out.new ≡ S.tells out.old }
+    ensures range { (result ≡ checked_status report.now) ⊎ (result ≡ 6) ⊎ (result ≡ 7) }
+    ensures whole { result ≡ checked_status report.now → TellsFault (S.tells out.old) (verify_lines report.now name.now) (S.taken out.old) (S.taken out.new) }
+    ensures prefix { PutsPrefix (S.tells out.old) (verify_lines report.now name.now) (S.taken out.old) (S.taken out.new) }
+    ensures nothing { result ≡ 7 → TellsFault (S.tells out.old) [] (S.taken out.old) (S.taken out.new) }
+    ensures cause { result ≡ 6 → Rose (S.faults out.old) (S.faults out.new) }
+    ensures quiet { result ≡ checked_status report.now → S.faults out.new ≡ S.faults out.old }
+{
+    match put_verify(alloc, report, name, out) {
+        Ok(()) => checked_status(report),
         Err(PutRefusal::OutOfMemory) => 7,
         Err(PutRefusal::SinkFault) => 6,
     }

@@ -2,7 +2,7 @@ use Rattle.std.proofs.Common.{sym, subst, refl}
 use Rattle.std.specs.Prelude.{Ok}
 use Rattle.rs01_words.specs.declared.command.Command.{Command}
 use Rattle.rs01_top.specs.Answer.{IsNoWork}
-use Rattle.rs01_top.proofs.Runs.{of_command, create_run}
+use Rattle.rs01_top.proofs.Runs.{of_command, create_run, verify_run}
 use Rattle.rs01_top.proofs.run.carry_out.Goals as goal
 
 pub returns-in-Create-clause-run : goal.returns-in-Create-clause-run
@@ -15,7 +15,7 @@ returns-in-Fix-clause-run g c =
 
 pub returns-in-Verify-clause-run : goal.returns-in-Verify-clause-run
 returns-in-Verify-clause-run g c =
-    of_command c.args.asked.now _ _ _ _ _ _ _ _ (subst (λ (x : Command). IsNoWork (Ok x)) (sym c.in-Verify.is) tt) refl refl c.not_built-in-Verify.ensures.told
+    verify_run c.args.asked.now _ _ c.word_at-in-Verify.result.now c.word_at-in-Verify-2.result.now _ _ _ _ _ _ _ _ _ c.in-Verify.is c.word_at-in-Verify.ensures c.word_at-in-Verify-2.ensures c.check.ensures.run
 
 pub returns-in-Scan-clause-run : goal.returns-in-Scan-clause-run
 returns-in-Scan-clause-run g c =
