@@ -1,3 +1,4 @@
 mod CreateRuns
 mod Prefixes
+mod RunLemmas
 mod Runs

@@ -62,15 +62,15 @@ IsNoWork (Ok (command.Read image ecc drives adaptive jump tries workers)) = Unit
 IsNoWork (Ok (command.Demo number sectors parity lost)) = Unit {0}
 IsNoWork (Err refused) = Unit {0}
 
--- words that ask for a file of an image that can't be protected, or isn't there
-abbrev pub IsRefusedImage : Result Command WordRefused → List (List ℕ) → Files → Type 0
-IsRefusedImage (Ok (command.Create image ecc parity workers)) words files = IsSome (refusal_of (files (word_at words image)))
-IsRefusedImage (Ok (command.Fix image ecc workers cut)) words files = ⊥
-IsRefusedImage (Ok (command.Verify image ecc)) words files = ⊥
-IsRefusedImage (Ok (command.Scan ecc drives)) words files = ⊥
-IsRefusedImage (Ok (command.Read image ecc drives adaptive jump tries workers)) words files = ⊥
-IsRefusedImage (Ok (command.Demo number sectors parity lost)) words files = ⊥
-IsRefusedImage (Err refused) words files = ⊥
+-- words whose work the files forbid, as that on an image that can't be protected or isn't there
+abbrev pub IsRefusedByFiles : Result Command WordRefused → List (List ℕ) → Files → Type 0
+IsRefusedByFiles (Ok (command.Create image ecc parity workers)) words files = IsSome (refusal_of (files (word_at words image)))
+IsRefusedByFiles (Ok (command.Fix image ecc workers cut)) words files = ⊥
+IsRefusedByFiles (Ok (command.Verify image ecc)) words files = ⊥
+IsRefusedByFiles (Ok (command.Scan ecc drives)) words files = ⊥
+IsRefusedByFiles (Ok (command.Read image ecc drives adaptive jump tries workers)) words files = ⊥
+IsRefusedByFiles (Ok (command.Demo number sectors parity lost)) words files = ⊥
+IsRefusedByFiles (Err refused) words files = ⊥
 
 -- what may stand after a fault or want of memory in `create`: no other file has changed, and the one under ECC is as
 -- before, begun, or whole

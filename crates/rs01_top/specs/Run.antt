@@ -7,11 +7,11 @@ use Rattle.rs01_report.specs.Faults.{fault_line}
 use Rattle.rs01_words.specs.declared.command.Command.{Command}
 use Rattle.rs01_words.specs.declared.fault.WordRefused.{WordRefused}
 use Rattle.rs01_create.specs.Create.{refusal_of}
-use Rattle.rs01_top.specs.Answer.{AnswerTo, CreateAnswer, IsNoWork, IsRefusedImage, MayStand, MayStandAfterCreate}
+use Rattle.rs01_top.specs.Answer.{AnswerTo, CreateAnswer, IsNoWork, IsRefusedByFiles, MayStand, MayStandAfterCreate}
 
 -- a status of a run that met no fault and no want of memory
 abbrev pub IsSettled : ℕ → Type 0
-IsSettled status = (status ≡ 0) ⊎ (status ≡ 2) ⊎ (status ≡ 3)
+IsSettled status = (status ≡ 0) ⊎ (status ≡ 1) ⊎ (status ≡ 2) ⊎ (status ≡ 3)
 
 -- the last line put is this fault's, where the sink tells
 abbrev pub TellsFault : Bool → List ℕ → List ℕ → List ℕ → Type 0
@@ -40,20 +40,21 @@ pub record Counts : Type 0 where
   pub puts : ℕ
   pub puts' : ℕ
 
--- what holds of a run that makes the file of an image
-pub record IsCreateRun (image ecc : List ℕ) (r : ℕ) (desk_tells out_tells : Bool) (old new : Files) (taken taken' : List ℕ) (counts : Counts) (status : ℕ) : Type 0 where
+-- What holds of a run: `right` is its answer as a relation between the bytes put and the status, `stands` is what may
+-- stand in any case, `no_work` says that nothing is built for the words, and `refused` that the files forbid the work.
+pub record IsRunOf (right : List ℕ → ℕ → Type 0) (stands no_work refused : Type 0) (desk_tells out_tells : Bool) (taken taken' : List ℕ) (counts : Counts) (status : ℕ) : Type 0 where
   -- the answer
-  pub answer : IsTrue desk_tells → IsSettled status
-      → (put : List ℕ) × CreateAnswer (refusal_of (old image)) image ecc r old new put status × TellsFault out_tells put taken taken'
+  pub answer : IsTrue desk_tells → IsSettled status → (put : List ℕ) × right put status × TellsFault out_tells put taken taken'
   -- after a fault of output alone, the files are those of the answer, and some first bytes of its text were put
   pub unput : IsTrue desk_tells → status ≡ 6 → ¬ Rose counts.reads counts.reads' → ¬ Rose counts.writes counts.writes'
-      → (put : List ℕ) × (number : ℕ) × CreateAnswer (refusal_of (old image)) image ecc r old new put number × PutsPrefix out_tells put taken taken'
+      → (put : List ℕ) × (number : ℕ) × right put number × PutsPrefix out_tells put taken taken'
   -- what may stand
-  pub stands : IsTrue desk_tells → MayStandAfterCreate image ecc r old new
+  pub standing : IsTrue desk_tells → stands
   -- the causes
-  pub some_work : status ≢ 2
-  pub refused_image : IsTrue desk_tells → IsSome (refusal_of (old image)) → (status ≡ 3) ⊎ (status ≡ 4) ⊎ (status ≡ 6) ⊎ (status ≡ 7)
-  pub only_refused_image : IsTrue desk_tells → status ≡ 3 → IsSome (refusal_of (old image))
+  pub no_work_told : no_work → (status ≡ 2) ⊎ (status ≡ 6) ⊎ (status ≡ 7)
+  pub only_no_work : status ≡ 2 → no_work
+  pub refused_told : IsTrue desk_tells → refused → (status ≡ 3) ⊎ (status ≡ 4) ⊎ (status ≡ 6) ⊎ (status ≡ 7)
+  pub only_refused : IsTrue desk_tells → status ≡ 3 → refused
   pub files_fault : status ≡ 4
       → (Rose counts.reads counts.reads' × TellsFault out_tells (fault_line fault.ReadFault) taken taken')
       ⊎ (Rose counts.writes counts.writes' × TellsFault out_tells (fault_line fault.WriteFault) taken taken')
@@ -63,26 +64,14 @@ pub record IsCreateRun (image ecc : List ℕ) (r : ℕ) (desk_tells out_tells : 
   pub quiet : IsSettled status → (counts.reads' ≡ counts.reads) × (counts.writes' ≡ counts.writes) × (counts.puts' ≡ counts.puts)
   pub range : IsSettled status ⊎ (status ≡ 4) ⊎ (status ≡ 6) ⊎ (status ≡ 7)
 
--- what holds of any run
-pub record IsRun (asked : Result Command WordRefused) (words : List (List ℕ)) (desk_tells out_tells : Bool) (old new : Files) (taken taken' : List ℕ) (counts : Counts) (status : ℕ) : Type 0 where
-  -- the answer
-  pub answer : IsTrue desk_tells → IsSettled status
-      → (put : List ℕ) × AnswerTo asked words old new put status × TellsFault out_tells put taken taken'
-  -- after a fault of output alone, the files are those of the answer, and some first bytes of its text were put
-  pub unput : IsTrue desk_tells → status ≡ 6 → ¬ Rose counts.reads counts.reads' → ¬ Rose counts.writes counts.writes'
-      → (put : List ℕ) × (number : ℕ) × AnswerTo asked words old new put number × PutsPrefix out_tells put taken taken'
-  -- what may stand
-  pub stands : IsTrue desk_tells → MayStand asked words old new
-  -- the causes
-  pub no_work : IsNoWork asked → (status ≡ 2) ⊎ (status ≡ 6) ⊎ (status ≡ 7)
-  pub only_no_work : status ≡ 2 → IsNoWork asked
-  pub refused_image : IsTrue desk_tells → IsRefusedImage asked words old → (status ≡ 3) ⊎ (status ≡ 4) ⊎ (status ≡ 6) ⊎ (status ≡ 7)
-  pub only_refused_image : IsTrue desk_tells → status ≡ 3 → IsRefusedImage asked words old
-  pub files_fault : status ≡ 4
-      → (Rose counts.reads counts.reads' × TellsFault out_tells (fault_line fault.ReadFault) taken taken')
-      ⊎ (Rose counts.writes counts.writes' × TellsFault out_tells (fault_line fault.WriteFault) taken taken')
-  pub output : status ≡ 6 → Rose counts.puts counts.puts'
-  pub memory : status ≡ 7 → PutsPrefix out_tells (fault_line fault.OutOfMemory) taken taken'
-  -- no fault is passed over
-  pub quiet : IsSettled status → (counts.reads' ≡ counts.reads) × (counts.writes' ≡ counts.writes) × (counts.puts' ≡ counts.puts)
-  pub range : IsSettled status ⊎ (status ≡ 4) ⊎ (status ≡ 6) ⊎ (status ≡ 7)
+-- a run that makes the file of an image
+abbrev pub IsCreateRun : (image ecc : List ℕ) → ℕ → Bool → Bool → Files → Files → List ℕ → List ℕ → Counts → ℕ → Type 0
+IsCreateRun image ecc r desk_tells out_tells old new taken taken' counts status =
+    IsRunOf (CreateAnswer (refusal_of (old image)) image ecc r old new) (MayStandAfterCreate image ecc r old new) ⊥ (IsSome (refusal_of (old image)))
+    desk_tells out_tells taken taken' counts status
+
+-- a run that does what was asked for by words
+abbrev pub IsRun : Result Command WordRefused → List (List ℕ) → Bool → Bool → Files → Files → List ℕ → List ℕ → Counts → ℕ → Type 0
+IsRun asked words desk_tells out_tells old new taken taken' counts status =
+    IsRunOf (AnswerTo asked words old new) (MayStand asked words old new) (IsNoWork asked) (IsRefusedByFiles asked words old)
+    desk_tells out_tells taken taken' counts status

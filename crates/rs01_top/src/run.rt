@@ -3,7 +3,7 @@ ghost use Rattle.std.specs.Prelude.{◌≡◌, ◌≢◌, ◌≤◌, ◌⊎◌, 
 ghost use Rattle.rs01_words.specs.Command.{IsWithin, NamesDiffer, words_of};
 ghost use Rattle.rs01_outside.specs.Causes.{Rose};
 ghost use Rattle.rs01_report.specs.Faults.{fault_line};
-ghost use Rattle.rs01_top.specs.Answer.{Answers, IsNoWork, IsRefusedImage, MayStand};
+ghost use Rattle.rs01_top.specs.Answer.{Answers, IsNoWork, IsRefusedByFiles, MayStand};
 ghost use Rattle.rs01_top.specs.Run.{IsCreateRun, IsRun, IsSettled, PutsPrefix, Telling, TellsFault};
 
 use crate::faults::{create_fault, create_status, word_fault};
@@ -146,9 +146,9 @@ pub fn run_one<D: Desk, S: Sink>(alloc: Global, words: &[String], desk: &mut D, 
     ensures range { IsSettled result ⊎ (result ≡ 4) ⊎ (result ≡ 6) ⊎ (result ≡ 7) }
     ensures no_work { IsNoWork (words_of (map string_bytes words.now)) → (result ≡ 2) ⊎ (result ≡ 6) ⊎ (result ≡ 7) }
     ensures only_no_work { result ≡ 2 → IsNoWork (words_of (map string_bytes words.now)) }
-    ensures refused_image { IsTrue (D.tells desk.old) → IsRefusedImage (words_of (map string_bytes words.now)) (map string_bytes words.now) (D.files desk.old)
+    ensures refused { IsTrue (D.tells desk.old) → IsRefusedByFiles (words_of (map string_bytes words.now)) (map string_bytes words.now) (D.files desk.old)
         → (result ≡ 3) ⊎ (result ≡ 4) ⊎ (result ≡ 6) ⊎ (result ≡ 7) }
-    ensures only_refused_image { IsTrue (D.tells desk.old) → result ≡ 3 → IsRefusedImage (words_of (map string_bytes words.now)) (map string_bytes words.now) (D.files desk.old) }
+    ensures only_refused { IsTrue (D.tells desk.old) → result ≡ 3 → IsRefusedByFiles (words_of (map string_bytes words.now)) (map string_bytes words.now) (D.files desk.old) }
     ensures fault { result ≡ 4
         → (Rose (D.read_faults desk.old) (D.read_faults desk.new) × TellsFault (S.tells out.old) (fault_line Fault.ReadFault) (S.taken out.old) (S.taken out.new))
         ⊎ (Rose (D.write_faults desk.old) (D.write_faults desk.new) × TellsFault (S.tells out.old) (fault_line Fault.WriteFault) (S.taken out.old) (S.taken out.new)) }

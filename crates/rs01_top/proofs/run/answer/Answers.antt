@@ -1,5 +1,5 @@
 use Rattle.std.proofs.Common.{sym, refl}
-use Rattle.rs01_top.proofs.CreateRuns.{telling_of}
+use Rattle.rs01_top.proofs.RunLemmas.{telling_of}
 use Rattle.rs01_top.proofs.Runs.{word_run}
 use Rattle.rs01_top.proofs.run.answer.Goals as goal
 

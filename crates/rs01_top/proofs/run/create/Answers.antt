@@ -4,7 +4,8 @@ use Rattle.rs01_create.specs.declared.refusal.CreateRefusal.{CreateRefusal}
 use Rattle.rs01_report.specs.declared.faults.Fault.{Fault}
 use Rattle.rs01_report.specs.Faults.{fault_line}
 use Rattle.rs01_top.specs.Faults.{create_fault, create_status}
-use Rattle.rs01_top.proofs.CreateRuns.{created, not_made, telling_of}
+use Rattle.rs01_top.proofs.CreateRuns.{created, not_made}
+use Rattle.rs01_top.proofs.RunLemmas.{telling_of}
 use Rattle.rs01_top.proofs.run.create.Goals as goal
 
 pub returns-in-Ok-clause-run : goal.returns-in-Ok-clause-run
