@@ -1,11 +1,11 @@
 -- How a sector was found, by the tests of the image file.
-use Rattle.std.proofs.Common.{◌≡◌, ℕ, List, [], ◌∷◌, ◌++◌, refl, sym, ap, ◌∙◌, Bool, true, false, cond, append-nil}
-use Rattle.std.specs.Prelude.{not, ◌&&◌, ◌||◌, Option, IsTrue, filter, slice_index, slice_set, ◌+◌}
+use Rattle.std.proofs.Common.{◌≡◌, ℕ, List, [], ◌∷◌, refl, Bool, true, false, cond}
+use Rattle.std.specs.Prelude.{not, ◌&&◌, ◌||◌, Option, IsTrue, slice_index, slice_set, ◌+◌}
 use Rattle.std.specs.Str.{bytes_eq}
 use Rattle.rs01_sums.specs.Marker.{marker}
 use Rattle.rs01_sums.specs.Usable.{is_usable}
 use Rattle.rs01_ecchead.specs.Erased.{Known, block_in, is_absent, is_altered, is_erased, is_missing}
-use Rattle.rs01_verify.specs.declared.condition.Condition.{Condition}
+use Rattle.rs01_ecchead.proofs.ErasedLemmas.{missing_is_erased, unusable}
 use Rattle.rs01_verify.specs.declared.condition.Condition.TheVariants.{Altered, Missing, Sound}
 use Rattle.rs01_verify.specs.Condition.{condition_of, judged, missing_part, altered_part, counts_after}
 
@@ -17,10 +17,6 @@ by_tests true marked usable h = refl
 by_tests false true usable h = refl
 by_tests false false true h = refl
 by_tests false false false h = refl
-
-unusable : (marked rest : Bool) → marked ≡ true → (not marked && rest) ≡ false
-unusable true rest e = refl
-unusable false rest e = cc
 
 -- a block is judged as the tests of the file say
 pub judged_is : (known : Known) (y : List ℕ) (s : ℕ) (there : Bool) (sums : Option (List ℕ)) (b : List ℕ) → sums ≡ known.sums
@@ -49,19 +45,6 @@ altered_part_by false false s = refl
 pub altered_part_is : (known : Known) (y : List ℕ) (s : ℕ) → altered_part (condition_of known y s) s ≡ cond (is_altered known y s) (s ∷ []) []
 unfolding is_altered
 altered_part_is known y s = altered_part_by (is_missing known y s) (is_erased known y s) s
-
--- a missing sector is erased
-erased_by_tests : (absent marked usable : Bool) → (marked ≡ true → usable ≡ false) → (absent || marked) ≡ true → (absent || not usable) ≡ true
-erased_by_tests true marked usable h e = refl
-erased_by_tests false true true h e = cc (h refl)
-erased_by_tests false true false h e = refl
-erased_by_tests false false usable h e = cc
-
-missing_is_erased : (known : Known) (y : List ℕ) (s : ℕ) → is_missing known y s ≡ true → is_erased known y s ≡ true
-unfolding is_missing is_erased
-missing_is_erased known y s e =
-    erased_by_tests (is_absent known y s) (bytes_eq (block_in known y s) (marker s)) (is_usable known.sums s (block_in known y s))
-    (unusable (bytes_eq (block_in known y s) (marker s)) _) e
 
 counts_after_by : (missing erased : Bool) (l : ℕ) (counts : List ℕ) → (missing ≡ true → erased ≡ true)
     → counts_after (cond missing Missing (cond (erased && not missing) Altered Sound)) l counts ≡ cond erased (slice_set counts l (slice_index counts l + 1)) counts

@@ -1,5 +1,5 @@
 -- Lists and counts of the sectors that were looked at, one sector more at a time.
-use Rattle.std.proofs.Common.{◌≡◌, ◌≢◌, ℕ, zero, suc, ◌+◌, ◌<◌, ◌≤◌, List, [], ◌∷◌, ◌++◌, length, map, get_or, set, refl, sym, ap, ◌∙◌, arith, Bool, true, false, cond, eqb, add-one, ◌⊎◌, ⊎_elim, count_by, get_or-set_other, length-set}
+use Rattle.std.proofs.Common.{◌≡◌, ℕ, ◌+◌, ◌<◌, ◌≤◌, List, [], ◌∷◌, ◌++◌, length, map, get_or, set, sym, ap, ◌∙◌, arith, Bool, true, false, cond, eqb, add-one, ⊎_elim, count_by, get_or-set_other, length-set}
 use Rattle.std.specs.Prelude.{filter, ◌&&◌, ◌==◌, slice_index, slice_set}
 use Rattle.std.specs.List.{range_with_len}
 use Rattle.std.proofs.lemmas.Bool.{cases_eq, eq-eqb, ne_eqb}

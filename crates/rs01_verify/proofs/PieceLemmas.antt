@@ -1,5 +1,5 @@
 -- The bytes of a sector, read as a block.
-use Rattle.std.proofs.Common.{◌≡◌, ℕ, ◌+◌, ◌-◌, ◌*◌, ◌≤◌, List, ◌++◌, length, take, drop, replicate, refl, sym, ap, ◌∙◌, arith, length-take, length-drop, min}
+use Rattle.std.proofs.Common.{◌≡◌, ℕ, ◌+◌, ◌-◌, ◌*◌, ◌≤◌, List, ◌++◌, length, take, drop, replicate, sym, ap, ◌∙◌, arith, length-take, length-drop}
 use Rattle.std.proofs.Math.Seq.{take-append_seam}
 use Rattle.rs01_layers.specs.Sectors.{block, padded}
 use Rattle.rs01_ecchead.specs.Header.{part}

@@ -1,19 +1,16 @@
 -- What is kept of an image file once one more sector was looked at.
-use Rattle.std.proofs.Common.{◌≡◌, ℕ, zero, suc, replicate, get_or, ◌+◌, ◌-◌, ◌*◌, ◌<◌, ◌≤◌, List, [], ◌∷◌, ◌++◌, length, map, take, drop, min, refl, sym, ap, subst, ◌∙◌, arith, Bool, true, false, cond, ltb, eqb, ◌⊎◌, ⊎_elim, count_by, nat_lt}
+use Rattle.std.proofs.Common.{◌≡◌, ℕ, zero, suc, replicate, get_or, ◌+◌, ◌-◌, ◌*◌, ◌<◌, ◌≤◌, List, [], ◌++◌, length, map, take, min, refl, sym, ap, ◌∙◌, arith, Bool, true, false, cond, ltb, eqb, ⊎_elim}
 use Rattle.std.specs.Prelude.{filter, ◌&&◌, ◌==◌, not, IsTrue}
 use Rattle.std.specs.List.{range_with_len}
-use Rattle.std.specs.Str.{bytes_eq}
 use Rattle.std.proofs.lemmas.Bool.{cases_eq, cases_lt, eq-eqb, ne_eqb, lt-ltb, le-ltb, cond-true, cond-false}
 use Rattle.std.proofs.Math.Seq.{take-add}
 use Rattle.std.proofs.lemmas.List.FromFn.{fill_by_all}
-use Rattle.md5.specs.Md5.{md5, Holds}
-use Rattle.md5.specs.declared.Md5.{Md5}
-use Rattle.rs01_layers.specs.Layout.{layer_of, layers_of}
+use Rattle.rs01_layers.specs.Layout.{layer_of}
 use Rattle.rs01_layers.specs.Sectors.{length_of}
 use Rattle.rs01_ecchead.specs.Header.{Fields, part}
 use Rattle.rs01_ecchead.specs.Erased.{Known, block_in, image_len, is_absent, is_altered, is_erased, is_missing}
 use Rattle.rs01_report.specs.declared.reports.Mark.{Mark}
-use Rattle.rs01_report.specs.declared.reports.Mark.TheVariants.{Absent, Differs, Matches}
+use Rattle.rs01_report.specs.declared.reports.Mark.TheVariants.{Absent}
 use Rattle.rs01_verify.specs.declared.condition.Condition.{Condition}
 use Rattle.rs01_verify.specs.Condition.{condition_of, missing_part, altered_part, counts_after}
 use Rattle.rs01_verify.specs.Report.{fingerprint_mark, image_mark, mark_of}

@@ -4,7 +4,6 @@ use Rattle.std.specs.Option.{unwrap_or}
 use Rattle.rs01_ecchead.specs.Header.{Fields}
 use Rattle.rs01_ecchead.specs.Opened.{opened_file}
 use Rattle.rs01_ecchead.specs.Erased.{known_by}
-use Rattle.rs01_ecchead.specs.declared.opened.Which.{Which}
 use Rattle.rs01_ecchead.specs.declared.opened.Which.TheVariants as which
 use Rattle.rs01_ecchead.specs.declared.opened.EccRefusal.{EccRefusal}
 use Rattle.rs01_ecchead.specs.declared.opened.EccRefusal.TheVariants as ecc

@@ -1,5 +1,5 @@
 -- What is told of an image file y, by the fields f of the header of its error correction file and what is known by it.
-use Rattle.std.specs.Prelude.{ℕ, ◌-◌, ◌&&◌, Bool, not, nat_lt, if◌then◌else◌, List, length, take}
+use Rattle.std.specs.Prelude.{ℕ, ◌-◌, ◌&&◌, not, nat_lt, if◌then◌else◌, List, length, take}
 use Rattle.std.specs.Str.{bytes_eq}
 use Rattle.md5.specs.Md5.{md5}
 use Rattle.rs01_layers.specs.Layout.{layers_of}

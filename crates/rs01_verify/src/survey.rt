@@ -85,7 +85,15 @@ fn look<D: Desk>(
     let extent = ecc.extent();
     let shape = ecc.shape();
     let mut block = [0u8; 2048];
-    let there = match take_sector(desk, name, size, &extent, sector, &mut block, &mut survey.hasher) {
+    let there = match take_sector(
+        desk,
+        name,
+        size,
+        &extent,
+        sector,
+        &mut block,
+        &mut survey.hasher,
+    ) {
         Ok(there) => there,
         Err(Failed) => return Err(VerifyRefusal::ReadFault),
     };

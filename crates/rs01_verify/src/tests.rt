@@ -25,10 +25,8 @@ fn image_bytes(alloc: Global, size: usize) -> Result<Vec<u8>, AllocError> {
 fn protected(alloc: Global, image: &[u8]) -> Result<MemoryDesk, Fail> {
     let mut desk = MemoryDesk::new(alloc);
     desk.put_file(alloc, "disc.iso", image)?;
-    match create_one(alloc, &mut desk, "disc.iso", "disc.ecc", 32) {
-        Ok(_) => Ok(desk),
-        Err(_) => Err(Fail),
-    }
+    let _report = create_one(alloc, &mut desk, "disc.iso", "disc.ecc", 32)?;
+    Ok(desk)
 }
 
 // A file that is cut, then has bytes put at a place.
@@ -36,6 +34,7 @@ fn change(desk: &mut MemoryDesk, name: &str, len: u64, at: u64, bytes: &[u8]) ->
     desk.cut(name, len).is_ok() && desk.write_at(name, at, bytes).is_ok()
 }
 
+#[derive(Drop)]
 struct Row {
     // how the image is cut, and the bytes that are put at a place of it
     len: u64,
@@ -153,9 +152,7 @@ fn empty_image(rt: HostRuntime) -> Result<(), Fail> {
     let image = image_bytes(rt.alloc(), LEN as usize)?;
     let mut desk = protected(rt.alloc(), &image)?;
     desk.put_file(rt.alloc(), "disc.iso", b"")?;
-    let Ok(report) = verify(rt.alloc(), &mut desk, "disc.iso", "disc.ecc") else {
-        return Err(Fail);
-    };
+    let report = verify(rt.alloc(), &mut desk, "disc.iso", "disc.ecc")?;
     assert_eq!(rt; report.missing.len(), 224);
     assert_eq!(rt; report.altered.len(), 0);
     let fullest = Fullest {
@@ -183,16 +180,12 @@ fn headers(rt: HostRuntime) -> Result<(), Fail> {
     let mut desk = protected(rt.alloc(), &image)?;
     // a fingerprint sector that the image hasn't
     assert!(rt; change(&mut desk, "disc.ecc", u64::MAX, 92, &224u32.to_le_bytes()));
-    let Ok(report) = verify(rt.alloc(), &mut desk, "disc.iso", "disc.ecc") else {
-        return Err(Fail);
-    };
+    let report = verify(rt.alloc(), &mut desk, "disc.iso", "disc.ecc")?;
     assert!(rt; report.fingerprint == Mark::Absent && report.image == Mark::Matches);
     // another creator, and a full last sector told as 0
     assert!(rt; change(&mut desk, "disc.ecc", u64::MAX, 84, &900u32.to_le_bytes()));
     assert!(rt; change(&mut desk, "disc.ecc", u64::MAX, 116, &0u32.to_le_bytes()));
-    let Ok(report) = verify(rt.alloc(), &mut desk, "disc.iso", "disc.ecc") else {
-        return Err(Fail);
-    };
+    let report = verify(rt.alloc(), &mut desk, "disc.iso", "disc.ecc")?;
     assert!(rt; report.missing.len() == 0 && report.image == Mark::Matches);
     // a newer version is needed
     assert!(rt; change(&mut desk, "disc.ecc", u64::MAX, 88, &2u32.to_le_bytes()));
@@ -214,18 +207,22 @@ fn damaged_files(rt: HostRuntime) -> Result<(), Fail> {
     let image = image_bytes(rt.alloc(), 2048)?;
     let mut desk = protected(rt.alloc(), &image)?;
     let Some(want) = body_sum(&desk) else {
-        return Err(Fail);
+        return Err(Fail::new("no such answer"));
     };
     // one parity byte flipped
     assert!(rt; change(&mut desk, "disc.ecc", u64::MAX, 69_635, b"!"));
     let Some(have) = body_sum(&desk) else {
-        return Err(Fail);
+        return Err(Fail::new("no such answer"));
     };
     assert_eq!(rt;
         refusal(rt.alloc(), &mut desk),
         Some(VerifyRefusal::Body { have, want })
     );
-    for (len, have, want) in [(69_635u64, 69_635u64, 69_636u64), (4095, 4095, 4096), (0, 0, 4096)] {
+    for (len, have, want) in [
+        (69_635u64, 69_635u64, 69_636u64),
+        (4095, 4095, 4096),
+        (0, 0, 4096),
+    ] {
         assert!(rt; desk.cut("disc.ecc", len).is_ok());
         assert_eq!(rt;
             refusal(rt.alloc(), &mut desk),
@@ -240,17 +237,25 @@ fn damaged_files(rt: HostRuntime) -> Result<(), Fail> {
     Ok(())
 }
 
+// The calls on the two files, in their order: a size, three reads, a size and a read.
 #[test]
 fn faults(rt: HostRuntime) -> Result<(), Fail> {
     let image = image_bytes(rt.alloc(), 2048)?;
-    for (call, rose) in [(0u64, true), (3, true), (5, true), (9, false)] {
-        let mut desk = protected(rt.alloc(), &image)?;
-        let before = desk.read_faults();
-        // creating made six calls
-        desk.fail_call(6 + call);
+    let made = protected(rt.alloc(), &image)?;
+    let Some(ecc) = made.file("disc.ecc") else {
+        return Err(Fail::new("no such answer"));
+    };
+    for (call, fails) in [(0u64, true), (3, true), (4, true), (5, true), (6, false)] {
+        let mut desk = MemoryDesk::new(rt.alloc());
+        desk.put_file(rt.alloc(), "disc.iso", &image)?;
+        desk.put_file(rt.alloc(), "disc.ecc", ecc)?;
+        desk.fail_call(call);
         let why = refusal(rt.alloc(), &mut desk);
-        assert!(rt; (why == Some(VerifyRefusal::ReadFault)) == rose, "call {call}");
-        assert!(rt; (desk.read_faults() > before) == rose, "call {call}");
+        assert!(rt;
+            (why == Some(VerifyRefusal::ReadFault)) == fails,
+            "call {call}"
+        );
+        assert!(rt; (desk.read_faults() == 1) == fails, "call {call}");
     }
     Ok(())
 }
@@ -260,7 +265,7 @@ fn no_image(rt: HostRuntime) -> Result<(), Fail> {
     let image = image_bytes(rt.alloc(), 2048)?;
     let mut desk = protected(rt.alloc(), &image)?;
     let Err(why) = verify(rt.alloc(), &mut desk, "other.iso", "disc.ecc") else {
-        return Err(Fail);
+        return Err(Fail::new("no such answer"));
     };
     assert_eq!(rt; why, VerifyRefusal::NoFile(Which::Image));
     Ok(())

@@ -1,5 +1,5 @@
-use Rattle.std.proofs.Common.{◌≡◌, ◌∙◌, ap, get_or}
-use Rattle.rs01_verify.specs.Fullness.{fullest_of, first_largest}
+use Rattle.std.proofs.Common.{ap, get_or}
+use Rattle.rs01_verify.specs.Fullness.{fullest_of}
 use Rattle.rs01_verify.proofs.fullest.fullest.Goals as goal
 
 pub returns : goal.returns

@@ -1,4 +1,4 @@
-use Rattle.std.proofs.Common.{◌≡◌, ◌∙◌, ◌+◌, ◌*◌, ◌-◌, ◌<◌, ◌≤◌, ◌++◌, List, length, ℕ, ap, sym, subst, take, min, arith, cond, vec_len}
+use Rattle.std.proofs.Common.{◌≡◌, ◌∙◌, ◌+◌, ◌*◌, ◌<◌, ◌++◌, List, length, ℕ, ap, sym, subst, take, min, arith, cond}
 use Rattle.std.specs.Prelude.{IsTrue, Some, ◌&&◌, ◌==◌, not}
 use Rattle.md5.specs.Md5.{Holds}
 use Rattle.rs01_outside.specs.Files.{bytes_of}
@@ -10,9 +10,8 @@ use Rattle.rs01_ecchead.specs.declared.head.Head.{Head}
 use Rattle.rs01_ecchead.specs.Erased.{block_in, image_len, is_absent, known_of}
 use Rattle.rs01_ecchead.specs.Head.{fields_of}
 use Rattle.rs01_ecchead.specs.Header.{part}
-use Rattle.rs01_verify.specs.Condition.{condition_of, counts_after}
+use Rattle.rs01_verify.specs.Condition.{counts_after}
 use Rattle.rs01_verify.specs.Report.{mark_of}
-use Rattle.rs01_verify.specs.Surveyed.{IsCounted, Surveyed}
 use Rattle.rs01_verify.proofs.ConditionLemmas.{judged_is}
 use Rattle.rs01_verify.proofs.CountLemmas.{counted_all, counted_bound}
 use Rattle.rs01_verify.proofs.SurveyLemmas.{missing_more, altered_more, counts_more, bytes_more, mark_more, absent_is, reaches}

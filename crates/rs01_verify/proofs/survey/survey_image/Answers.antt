@@ -1,5 +1,4 @@
-use Rattle.std.proofs.Common.{◌≡◌, ◌∙◌, ◌≤◌, [], List, ℕ, ap, sym, subst, refl, length, get_or, map, replicate, arith}
-use Rattle.std.specs.List.{range_with_len}
+use Rattle.std.proofs.Common.{◌≡◌, ◌∙◌, List, ℕ, ap, subst, refl, length, get_or, replicate, arith}
 use Rattle.md5.specs.Md5.{Holds}
 use Rattle.rs01_outside.specs.Files.{bytes_of}
 use Rattle.rs01_layers.specs.Layout.{layers_of}

@@ -1,4 +1,4 @@
-use Rattle.std.proofs.Common.{◌≡◌, ◌∙◌, ◌+◌, ◌*◌, ◌≤◌, ◌++◌, length, subst, List, ℕ, take, arith}
+use Rattle.std.proofs.Common.{◌∙◌, ◌+◌, ◌*◌, ◌≤◌, ◌++◌, length, subst, List, ℕ, take, arith}
 use Rattle.md5.specs.Md5.{Holds}
 use Rattle.rs01_outside.specs.Files.{bytes_of}
 use Rattle.rs01_layers.specs.Sectors.{length_of}

@@ -1,4 +1,4 @@
-use Rattle.std.proofs.Common.{◌≡◌, ◌∙◌, ◌+◌, ◌-◌, ◌*◌, ap, arith, length, List, ℕ, subst, sym, take, min}
+use Rattle.std.proofs.Common.{◌≡◌, ◌∙◌, ◌+◌, ◌-◌, ◌*◌, ap, arith, take, min}
 use Rattle.rs01_layers.specs.Layout.{layers_of}
 use Rattle.rs01_ecchead.specs.declared.head.Head.{Head}
 use Rattle.rs01_ecchead.specs.Erased.{altered_sectors, erased_in, image_len, known_of, missing_sectors}

@@ -1,8 +1,8 @@
 use Rattle.std.proofs.Common.{◌≡◌, ◌∙◌, ap, sym, subst, length, ℕ, List}
-use Rattle.std.specs.Prelude.{IsTrue, None, Option, Some}
+use Rattle.std.specs.Prelude.{IsTrue, Some}
 use Rattle.std.specs.Option.{option_map}
 use Rattle.rs01_outside.specs.Files.{Files, bytes_of}
-use Rattle.rs01_ecchead.specs.Erased.{Known, known_by, known_of}
+use Rattle.rs01_ecchead.specs.Erased.{known_by, known_of}
 use Rattle.rs01_ecchead.specs.Head.{fields_of}
 use Rattle.rs01_verify.specs.Report.{report_of}
 use Rattle.rs01_verify.proofs.AnswerLemmas.{by_ecc, by_no_image, by_report, size_then}
