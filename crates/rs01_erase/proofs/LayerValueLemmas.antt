@@ -118,3 +118,120 @@ restored_block-is_block blocks flags parity r p =
     let here : get_or (map f (range_with_len 0 codewords)) k 0 ≡ f k = get_or-map-range_with_len f 0 codewords k k 0 (omega arith) (omega arith) in
     let low : f k < 2 ^ 8 = restored_byte (completed blocks flags parity r k) (word_of blocks parity r k) (erased_places flags) r p refl in
     omega arith))
+
+-- ---- a layer that is intact but for its erased places
+
+-- the original codeword b
+abbrev pub original_word : List (List ℕ) → ℕ → List ℕ
+original_word original b = column original b ++ encode (column original b)
+
+original_bytes : (original : List (List ℕ)) (b : ℕ) → All IsBlock original → AllBytes (column original b)
+original_bytes original b whole p =
+    let long : length (column original b) ≡ length original = length-column original b in
+    ⊎_elim
+    (λ (inside : p < length original).
+    let block : IsBlock (get_or original p []) = All-get_or IsBlock original p [] inside whole in
+    let here : get_or (column original b) p 0 ≡ get_or (get_or original p []) b 0 = get_or-column original b p inside in
+    let low : get_or (get_or original p []) b 0 < 2 ^ 8 = bytes_of_all (get_or original p []) block.1 b in
+    omega arith)
+    (λ (past : length original ≤ p).
+    let here : get_or (column original b) p 0 ≡ 0 = get_or_past (column original b) p 0 (omega arith) in
+    omega arith)
+    (cases_lt p (length original))
+
+original_code : (original : List (List ℕ)) (r b : ℕ) → length original ≡ 255 - r → r ≤ 255 → All IsBlock original → IsCodeword (original_word original b) r
+original_code original r b count most whole =
+    let d : List ℕ = column original b in
+    let long : length d ≡ length original = length-column original b in
+    let parity : 255 - length d ≡ r = omega arith in
+    let P : ℕ → Type 0 = λ n. IsCodeword (original_word original b) n in
+    subst P parity (encoding_is_codeword d (original_bytes original b whole) (omega arith))
+
+-- the held word agrees with the original one outside of the erased places
+held_agrees : (original blocks : List (List ℕ)) (flags : List Bool) (sums parity : List ℕ) (r b : ℕ) → IsIntact original blocks flags sums parity r → b < 2048
+    → word_of blocks parity r b ≡ column blocks b ++ encode (column original b)
+unfolding word_of
+held_agrees original blocks flags sums parity r b intact below = ap (λ rest. column blocks b ++ rest) (intact.parity_is b below)
+
+-- each codeword is completed to the original one
+pub completed-intact : (original blocks : List (List ℕ)) (flags : List Bool) (sums parity : List ℕ) (r b : ℕ) → IsIntact original blocks flags sums parity r
+    → r ≤ 255 → length (erased_places flags) ≤ r → b < 2048 → completed blocks flags parity r b ≡ Some (original_word original b)
+unfolding completed
+completed-intact original blocks flags sums parity r b intact most few below =
+    let places : List ℕ = erased_places flags in
+    let rest : List ℕ = encode (column original b) in
+    let code : IsCodeword (original_word original b) r = original_code original r b intact.original_count most intact.original_blocks in
+    let original_long : length (original_word original b) ≡ 255 = code.whole in
+    let c1 : length (column original b) ≡ length original = length-column original b in
+    let c2 : length (column blocks b) ≡ length blocks = length-column blocks b in
+    let counts : length blocks ≡ length original = intact.block_count ∙ sym intact.original_count in
+    let long : length (column blocks b ++ rest) ≡ 255 =
+    omega (arith, length-append (column blocks b) rest, length-append (column original b) rest) in
+    ap (λ w. completion w places r) (held_agrees original blocks flags sums parity r b intact below)
+    ∙ completion-is (column blocks b ++ rest) places r (original_word original b) long
+    (λ k h. omega (arith, erased_below_at flags k h, intact.flag_count))
+    (erased_rise flags) few code
+    (λ p out. sym (words_agree blocks original flags rest b counts intact.held p out))
+
+-- each restored block is the original one
+pub restored_block-intact : (original blocks : List (List ℕ)) (flags : List Bool) (sums parity : List ℕ) (r p : ℕ) → IsIntact original blocks flags sums parity r
+    → r ≤ 255 → length (erased_places flags) ≤ r → p < 255 - r → restored_block blocks flags parity r p ≡ get_or original p []
+unfolding restored_block
+restored_block-intact original blocks flags sums parity r p intact most few inside =
+    let f : ℕ → ℕ = λ b. get_or (unwrap_or (completed blocks flags parity r b) []) p 0 in
+    let here : p < length original = omega (arith, intact.original_count) in
+    let block : IsBlock (get_or original p []) = All-get_or IsBlock original p [] here intact.original_blocks in
+    sym (fill_by_all f (get_or original p []) codewords 0 (block.0 ∙ sym codewords-is)
+    (λ b h.
+    let below : b < 2048 = omega (arith, codewords-is) in
+    let c1 : length (column original b) ≡ length original = length-column original b in
+    sym (ap (λ o. get_or (unwrap_or o []) p 0) (completed-intact original blocks flags sums parity r b intact most few below)
+    ∙ get_or_append_left (column original b) (encode (column original b)) 0 p (omega arith)
+    ∙ get_or-column original b p here)))
+
+consistent-intact : (original blocks : List (List ℕ)) (flags : List Bool) (sums parity : List ℕ) (r : ℕ) → IsIntact original blocks flags sums parity r
+    → r ≤ 255 → length (erased_places flags) ≤ r → first_inconsistent blocks flags parity r ≡ None
+unfolding first_inconsistent
+consistent-intact original blocks flags sums parity r intact most few =
+    find_none (λ b. is_none (completed blocks flags parity r b)) (range_with_len 0 codewords)
+    (λ k h.
+    let long : length (range_with_len 0 codewords) ≡ codewords = length-range_with_len 0 codewords in
+    let inside : k < codewords = omega arith in
+    let below : k < 2048 = omega (arith, codewords-is) in
+    ap (λ b. is_none (completed blocks flags parity r b)) (number_in_range codewords k inside)
+    ∙ ap (λ o. is_none o) (completed-intact original blocks flags sums parity r k intact most few below))
+
+sums-intact : (original blocks : List (List ℕ)) (flags : List Bool) (sums parity : List ℕ) (r : ℕ) → IsIntact original blocks flags sums parity r
+    → r ≤ 255 → length (erased_places flags) ≤ r → first_bad_sum blocks flags sums parity r ≡ None
+unfolding first_bad_sum
+sums-intact original blocks flags sums parity r intact most few =
+    find_none (λ p. not (eqb (crc (restored_block blocks flags parity r p)) (get_or sums p 0))) (erased_places flags)
+    (λ k h.
+    let p : ℕ = get_or (erased_places flags) k 0 in
+    let inside : p < 255 - r = omega (arith, erased_below_at flags k h, intact.flag_count) in
+    not_from_true (eqb (crc (restored_block blocks flags parity r p)) (get_or sums p 0))
+    (eq-eqb (crc (restored_block blocks flags parity r p)) (get_or sums p 0)
+    (ap crc (restored_block-intact original blocks flags sums parity r p intact most few inside)
+    ∙ sym (intact.sums_are p (erased_flagged flags k h)))))
+
+-- where at most r places are erased, correcting an intact layer restores the original block of each erased place
+pub intact_layer_is_restored : (original blocks : List (List ℕ)) (flags : List Bool) (sums parity : List ℕ) (r : ℕ)
+    → IsIntact original blocks flags sums parity r → r ≤ 255 → length (erased_places flags) ≤ r
+    → correct_of blocks flags sums parity r ≡ Restored (placed (λ p. get_or original p []) (erased_places flags))
+unfolding correct_of
+intact_layer_is_restored original blocks flags sums parity r intact most few =
+    let places : List ℕ = erased_places flags in
+    let all : LayerOut = Restored (placed (restored_block blocks flags parity r) places) in
+    cond-false (ltb r (length places)) (Beyond (length places))
+    (option_map_or (λ b. Inconsistent b) (first_inconsistent blocks flags parity r)
+    (option_map_or (λ p. BadSum p) (first_bad_sum blocks flags sums parity r) all))
+    (le-ltb r (length places) few)
+    ∙ (λ i. option_map_or (λ b. Inconsistent b) (consistent-intact original blocks flags sums parity r intact most few i)
+    (option_map_or (λ p. BadSum p) (sums-intact original blocks flags sums parity r intact most few i) all))
+    ∙ ap Restored (map_same (λ p. record { place = p; block = restored_block blocks flags parity r p })
+    (λ p. record { place = p; block = get_or original p [] }) places
+    (λ k h.
+    let p : ℕ = get_or places k 0 in
+    let inside : p < 255 - r = omega (arith, erased_below_at flags k h, intact.flag_count) in
+    let same : restored_block blocks flags parity r p ≡ get_or original p [] = restored_block-intact original blocks flags sums parity r p intact most few inside in
+    (λ i. record { place = p; block = same i })))
