@@ -4,7 +4,7 @@ use Rattle.std.proofs.Common.{◌≡◌, ℕ, ◌+◌, ◌-◌, ◌*◌, ◌^◌
 use Rattle.std.specs.Prelude.{not, is_none, unwrap_or}
 use Rattle.std.specs.List.{find, range_with_len, All, Contains}
 use Rattle.std.specs.Option.{option_map_or}
-use Rattle.std.proofs.lemmas.Bool.{cases_lt, cond-false, le-ltb, not_from_true}
+use Rattle.std.proofs.lemmas.Bool.{cases_lt, cond-false, le-ltb, ltb-false, not_from_true}
 use Rattle.std.proofs.lemmas.List.{get_or_append_left, get_or-append_right, get_or_past, length-map}
 use Rattle.std.proofs.lemmas.List.Elements.{All-get_or, All-from_get_or}
 use Rattle.std.proofs.lemmas.List.FromFn.{length-range_with_len, length-map-range_with_len, get_or-map-range_with_len, fill_by_all}
@@ -235,3 +235,30 @@ intact_layer_is_restored original blocks flags sums parity r intact most few =
     let inside : p < 255 - r = omega (arith, erased_below_at flags k h, intact.flag_count) in
     let same : restored_block blocks flags parity r p ≡ get_or original p [] = restored_block-intact original blocks flags sums parity r p intact most few inside in
     (λ i. record { place = p; block = same i })))
+
+-- ---- what the answer Restored says
+
+only_restored : (b : Bool) (n : ℕ) (o q : Option ℕ) (all list : List Placed)
+    → cond b (Beyond n) (option_map_or (λ c. Inconsistent c) o (option_map_or (λ p. BadSum p) q (Restored all))) ≡ Restored list
+    → (b ≡ false) × (o ≡ None) × (q ≡ None) × (list ≡ all)
+only_restored true n o q all list e = absurd (let never : ⊥ = cc in never)
+only_restored false n (Some c) q all list e = absurd (let never : ⊥ = cc in never)
+only_restored false n None (Some p) all list e = absurd (let never : ⊥ = cc in never)
+only_restored false n None None all list e = (refl, refl, refl, (let same : list ≡ all = cc in same))
+
+-- restored are exactly the erased places, each with its restored block; they are not too many, each codeword was
+-- completed, and each restored block has its checksum
+pub record IsRestored (blocks : List (List ℕ)) (flags : List Bool) (sums parity : List ℕ) (r : ℕ) (list : List Placed) : Type 0 where
+  pub few : length (erased_places flags) ≤ r
+  pub consistent : first_inconsistent blocks flags parity r ≡ None
+  pub sums_match : first_bad_sum blocks flags sums parity r ≡ None
+  pub list_is : list ≡ placed (restored_block blocks flags parity r) (erased_places flags)
+
+pub correct_of-restored : (blocks : List (List ℕ)) (flags : List Bool) (sums parity : List ℕ) (r : ℕ) (list : List Placed)
+    → correct_of blocks flags sums parity r ≡ Restored list → IsRestored blocks flags sums parity r list
+unfolding correct_of
+correct_of-restored blocks flags sums parity r list e =
+    let places : List ℕ = erased_places flags in
+    let parts = only_restored (ltb r (length places)) (length places) (first_inconsistent blocks flags parity r) (first_bad_sum blocks flags sums parity r)
+    (placed (restored_block blocks flags parity r) places) list e in
+    record { few = ltb-false r (length places) parts.0; consistent = parts.1; sums_match = parts.2; list_is = parts.3 }
