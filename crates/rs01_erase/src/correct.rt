@@ -170,7 +170,25 @@ fn zeros(alloc: Global, size: usize) -> Result<Vec<u8>, AllocError>
     vec![in alloc; 0u8; size]
 }
 
-// Restores the blocks of the erased places, of which there are not too many.
+// Restores the blocks of the erased places, of which there are not too many, within a buffer.
+fn restore_within(alloc: Global, input: &LayerInput, erased: &[u8], restored: &mut [u8]) -> Result<LayerOut, AllocError>
+    requires parity { length input.now.parity ≡ 2048 * input.now.parity_count }
+    requires erased { erased.now ≡ erased_places input.now.erased }
+    requires few { length erased.now ≤ input.now.parity_count }
+    requires room { length restored.old ≡ 2048 * length erased.now }
+    ensures { IfOk result (λ out. out ≡ correct input.now) }
+{
+    if let Some(codeword) = restore_all(input, erased, 2048, restored) {
+        return Ok(LayerOut::Inconsistent(codeword));
+    }
+    if let Some(place) = find_bad_sum(restored, erased, input.sums.items()) {
+        return Ok(LayerOut::BadSum(place));
+    }
+    let list = place_blocks(alloc, restored, erased)?;
+    Ok(LayerOut::Restored(PlacedList::of(list)))
+}
+
+// The same, with a buffer of its own.
 fn restore_places(alloc: Global, input: &LayerInput, erased: &[u8]) -> Result<LayerOut, AllocError>
     requires parity { length input.now.parity ≡ 2048 * input.now.parity_count }
     requires erased { erased.now ≡ erased_places input.now.erased }
@@ -178,12 +196,6 @@ fn restore_places(alloc: Global, input: &LayerInput, erased: &[u8]) -> Result<La
     ensures { IfOk result (λ out. out ≡ correct input.now) }
 {
     let mut restored = zeros(alloc, 2048 * erased.len())?;
-    if let Some(codeword) = restore_all(input, erased, 2048, restored.as_mut_slice()) {
-        return Ok(LayerOut::Inconsistent(codeword));
-    }
-    if let Some(place) = find_bad_sum(restored.as_slice(), erased, input.sums.items()) {
-        return Ok(LayerOut::BadSum(place));
-    }
-    let list = place_blocks(alloc, restored.as_slice(), erased)?;
-    Ok(LayerOut::Restored(PlacedList::of(list)))
+    let out = restore_within(alloc, input, erased, restored.as_mut_slice())?;
+    Ok(out)
 }
