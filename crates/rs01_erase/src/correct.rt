@@ -7,7 +7,9 @@ ghost use Rattle.rs01_erase.specs.LayerValue.{erased_places, word_of};
 ghost use Rattle.rs01_erase.specs.Restoring.{HoldsByte, bad_sum_in, block_in, completed_at, placed_blocks};
 
 use crate::restore::restore_codeword;
-use rs01_layers::{Bytes, LayerInput, LayerOut, LayerTask, Placed, PlacedList, column_of_blocks_into};
+use rs01_layers::{
+    Bytes, LayerInput, LayerOut, LayerTask, Placed, PlacedList, column_of_blocks_into,
+};
 use rs01_sums::crc32;
 use std::alloc::{AllocError, Global};
 
@@ -104,7 +106,12 @@ fn restore_at(input: &LayerInput, erased: &[u8], codeword: u32, restored: &mut [
 }
 
 // Restores the first codewords, up to one that is inconsistent, and gives that one.
-fn restore_all(input: &LayerInput, erased: &[u8], codewords: u32, restored: &mut [u8]) -> Option<u32>
+fn restore_all(
+    input: &LayerInput,
+    erased: &[u8],
+    codewords: u32,
+    restored: &mut [u8],
+) -> Option<u32>
     requires parity { length input.now.parity ≡ 2048 * input.now.parity_count }
     requires rising { IsStrictlyIncreasing erased.now }
     requires below { All (λ p. p < 255) erased.now }
@@ -171,7 +178,12 @@ fn zeros(alloc: Global, size: usize) -> Result<Vec<u8>, AllocError>
 }
 
 // Restores the blocks of the erased places, of which there are not too many, within a buffer.
-fn restore_within(alloc: Global, input: &LayerInput, erased: &[u8], restored: &mut [u8]) -> Result<LayerOut, AllocError>
+fn restore_within(
+    alloc: Global,
+    input: &LayerInput,
+    erased: &[u8],
+    restored: &mut [u8],
+) -> Result<LayerOut, AllocError>
     requires parity { length input.now.parity ≡ 2048 * input.now.parity_count }
     requires erased { erased.now ≡ erased_places input.now.erased }
     requires few { length erased.now ≤ input.now.parity_count }

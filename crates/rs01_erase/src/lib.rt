@@ -6,6 +6,7 @@
 
 mod correct;
 pub mod laws;
+pub mod laws_of_correcting;
 mod power_sums;
 mod restore;
 
@@ -14,3 +15,5 @@ pub use restore::{EraseRefusal, restore_codeword};
 
 #[cfg(test)]
 mod tests;
+#[cfg(test)]
+mod tests_of_correcting;

@@ -7,12 +7,12 @@ use Rattle.rs01_erase.proofs.correct.find_erased.Goals.{then-flag, else-flag}
 pub loop-place-preserved : goal.loop-place-preserved
 loop-place-preserved c =
     elim c.if-flag.branch [
-      then-flag w ↦ rw (w.places-is, w.count-is) (record {
+      | then-flag w ↦ rw (w.places-is, w.count-is) (record {
         few = omega arith;
         long = length-set c.loop-place.places c.loop-place.count c.loop-place.place ∙ c.loop-place.invariant.long;
         found = one_more_found (λ p. get_or c.args.flags.now p false) c.loop-place.places c.loop-place.count c.loop-place.place (omega arith) w.if-flag.true c.loop-place.invariant.found;
       })
-    | else-flag w ↦ rw (w.places-is, w.count-is) (record {
+      | else-flag w ↦ rw (w.places-is, w.count-is) (record {
         few = omega arith;
         long = c.loop-place.invariant.long;
         found = none_more_found (λ p. get_or c.args.flags.now p false) c.loop-place.places c.loop-place.count c.loop-place.place w.if-flag.false c.loop-place.invariant.found;
