@@ -1,3 +1,7 @@
 pub mod Elimination
 pub mod Places
 pub mod Completions
+pub mod Found
+pub mod ErasedPlaces
+pub mod LayerValueLemmas
+pub mod RestoringLemmas

@@ -1,2 +1,5 @@
 pub mod Completion
 pub mod PowerSums
+pub mod LayerValue
+pub mod Correcting
+pub mod Restoring
