@@ -1,6 +1,6 @@
 -- What holds of a run that makes the file of an image, by how the making and the telling ended.
-use Rattle.std.proofs.Common.{◌≡◌, ◌≢◌, ℕ, List, [], ◌++◌, length, take, refl, sym, ap, ◌∙◌, subst, arith, ◌⊎◌, inl, inr, ⊎_elim}
-use Rattle.std.specs.Prelude.{Bool, IsTrue, IsSome, Option, Some, None}
+use Rattle.std.proofs.Common.{◌≡◌, ◌≢◌, ℕ, List, [], refl, sym, ap, subst, arith, ◌⊎◌, inl, inr, ⊎_elim}
+use Rattle.std.specs.Prelude.{Bool, IsTrue, Option, Some, None}
 use Rattle.rs01_outside.specs.Causes.{Rose}
 use Rattle.rs01_outside.specs.Files.{Files, Becomes, SameElsewhere, bytes_of}
 use Rattle.rs01_ecchead.specs.Header.{head_bytes}
@@ -15,7 +15,7 @@ use Rattle.rs01_report.specs.declared.faults.Fault.TheVariants as fault
 use Rattle.rs01_report.specs.Faults.{fault_line}
 use Rattle.rs01_report.specs.Texts.{create_lines}
 use Rattle.rs01_top.specs.Faults.{create_fault, create_status}
-use Rattle.rs01_top.specs.Answer.{CreateAnswer, IsCreated, IsRefused}
+use Rattle.rs01_top.specs.Answer.{CreateAnswer}
 use Rattle.rs01_top.specs.Run.{Counts, IsCreateRun, IsSettled, PutsPrefix, Telling, TellsFault}
 
 -- how the telling of a line with its status ended

@@ -1,6 +1,6 @@
 -- A text that was put whole is a prefix of itself.
-use Rattle.std.proofs.Common.{◌≡◌, ℕ, List, ◌++◌, length, take, ap, sym, ◌∙◌}
-use Rattle.std.specs.Prelude.{Bool, IsTrue}
+use Rattle.std.proofs.Common.{ℕ, List, ◌++◌, length, ap, sym, ◌∙◌}
+use Rattle.std.specs.Prelude.{Bool}
 use Rattle.std.proofs.Math.Seq.{take-length}
 use Rattle.rs01_top.specs.Run.{PutsPrefix, TellsFault}
 

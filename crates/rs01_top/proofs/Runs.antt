@@ -1,9 +1,7 @@
 -- What holds of a run, by what its words ask for.
-use Rattle.std.proofs.Common.{◌≡◌, ◌≢◌, ℕ, List, refl, sym, ap, ◌∙◌, subst, arith, ◌⊎◌, inl, inr, ⊎_elim}
-use Rattle.std.specs.Prelude.{Bool, IsTrue, Result, Ok, Err}
-use Rattle.rs01_outside.specs.Causes.{Rose}
+use Rattle.std.proofs.Common.{◌≡◌, ℕ, List, refl, sym, subst, arith, ◌⊎◌}
+use Rattle.std.specs.Prelude.{Bool, Result, Ok, Err}
 use Rattle.rs01_outside.specs.Files.{Files}
-use Rattle.rs01_create.specs.Create.{refusal_of}
 use Rattle.rs01_report.specs.declared.faults.Fault.{Fault}
 use Rattle.rs01_report.specs.declared.faults.Fault.TheVariants as fault
 use Rattle.rs01_report.specs.Faults.{fault_line}
@@ -12,7 +10,7 @@ use Rattle.rs01_words.specs.declared.command.Command.TheVariants as command
 use Rattle.rs01_words.specs.declared.fault.WordRefused.{WordRefused}
 use Rattle.rs01_words.specs.Line.{word_at}
 use Rattle.rs01_top.specs.Faults.{word_fault}
-use Rattle.rs01_top.specs.Answer.{AnswerTo, CreateAnswer, IsNoWork, IsRefused, IsRefusedImage, MayStand, MayStandAfterCreate}
+use Rattle.rs01_top.specs.Answer.{AnswerTo, IsNoWork, IsRefusedImage, MayStand}
 use Rattle.rs01_top.specs.Run.{Counts, IsCreateRun, IsRun, IsSettled, Telling}
 use Rattle.rs01_top.proofs.CreateRuns.{IsTold, as_told}
 

@@ -1,9 +1,6 @@
-use Rattle.std.proofs.Common.{◌≡◌, ◌≢◌, ◌∙◌, ap, sym, subst, List, ℕ}
+use Rattle.std.proofs.Common.{ap}
 use Rattle.std.specs.Prelude.{Err}
 use Rattle.rs01_create.specs.declared.refusal.CreateRefusal.{CreateRefusal}
-use Rattle.rs01_report.specs.declared.faults.Fault.{Fault}
-use Rattle.rs01_report.specs.Faults.{fault_line}
-use Rattle.rs01_top.specs.Faults.{create_fault, create_status}
 use Rattle.rs01_top.proofs.CreateRuns.{created, not_made, telling_of}
 use Rattle.rs01_top.proofs.run.create.Goals as goal
 
