@@ -1,11 +1,10 @@
 -- What the writes of a new file leave, one after the other.
 use Rattle.std.proofs.Common.{◌≡◌, ℕ, zero, suc, ◌+◌, ◌-◌, ◌≤◌, List, [], ◌∷◌, ◌++◌, length, take, drop, replicate, refl, sym, ap, ◌∙◌, subst, arith, ◌⊎◌, inl, inr, ⊎_elim, append_assoc, append-nil, min}
-use Rattle.std.specs.Prelude.{Option, Some, None, Result, Ok, Err, IsSomeAnd, OnErr, IsTrue, Bool}
+use Rattle.std.specs.Prelude.{Option, Some, Result, Ok, Err, IsSomeAnd, OnErr, IsTrue, Bool}
 use Rattle.std.specs.Option.{unwrap_or}
-use Rattle.std.proofs.Math.Seq.{take-append_seam, drop-append-add, drop-append_seam, take-append-add}
-use Rattle.std.proofs.lemmas.List.{length-replicate, length-append, length-take, take_all, take-replicate, drop-replicate, drop-append-le}
-use Rattle.std.proofs.Math.ListN.{drop_of_length-le}
-use Rattle.rs01_outside.specs.Files.{Files, Becomes, SameElsewhere, bytes_of, put_at, over, padded}
+use Rattle.std.proofs.Math.Seq.{take-append_seam, drop-append-add, drop-append_seam}
+use Rattle.std.proofs.lemmas.List.{length-replicate, length-append, length-take, drop-replicate, drop-append-le}
+use Rattle.rs01_outside.specs.Files.{Files, Becomes, SameElsewhere, bytes_of, put_at}
 use Rattle.rs01_ecchead.specs.Header.{zeros}
 use Rattle.rs01_create.specs.Unfinished.{IsUnfinished, IsBegun}
 

@@ -13,3 +13,6 @@ mod write;
 
 pub use create::create_one;
 pub use refusal::CreateRefusal;
+
+#[cfg(test)]
+mod tests;

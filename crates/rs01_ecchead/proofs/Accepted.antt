@@ -1,12 +1,10 @@
 -- A header that no refusal fits gives its fields.
-use Rattle.std.proofs.Common.{◌≡◌, ◌≢◌, ℕ, ◌+◌, ◌<◌, ◌≤◌, List, Bool, true, false, ap, ◌∙◌, sym, refl, arith, rules}
-use Rattle.std.specs.Prelude.{codes, if◌then◌else◌, Result, Ok, Err, ◌==◌, nat_lt, not, ◌||◌}
+use Rattle.std.proofs.Common.{◌≡◌, ℕ, ◌+◌, ◌≤◌, List, Bool, true, false, ◌∙◌, sym, arith}
+use Rattle.std.specs.Prelude.{codes, Ok, Err}
 use Rattle.std.specs.Str.{bytes_eq}
-use Rattle.std.proofs.lemmas.Bool.{le-ltb}
 use Rattle.std.proofs.lemmas.Bool.Decides.{nat_tests}
-use Rattle.rs01_ecchead.specs.declared.head.HeadRefusal.{HeadRefusal}
 use Rattle.rs01_ecchead.specs.declared.head.HeadRefusal.TheVariants.{Cookie}
-use Rattle.rs01_ecchead.specs.Header.{Fields, head_of, judged, part, fields_at}
+use Rattle.rs01_ecchead.specs.Header.{Fields, head_of, judged, part}
 
 pub accepted : (cookie method : Bool) (needed sectors data_bytes parity last_bytes : ℕ) (fields : Fields) → cookie ≡ true → method ≡ true
     → needed ≤ 1 → 1 ≤ sectors → sectors ≤ 16777215 → 8 ≤ parity → parity ≤ 100 → data_bytes + parity ≡ 255 → last_bytes ≤ 2048

@@ -17,3 +17,6 @@ pub use head_write::write_head;
 pub use opened::{Ecc, EccRefusal, Which};
 pub use opening::open_ecc;
 pub use sectors::sector_in;
+
+#[cfg(test)]
+mod tests;

@@ -6,3 +6,6 @@ mod run;
 mod tell;
 
 pub use run::run_one;
+
+#[cfg(test)]
+mod tests;

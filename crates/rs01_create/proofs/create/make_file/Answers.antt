@@ -1,6 +1,6 @@
 use Rattle.std.proofs.Common.{◌≡◌, ◌∙◌, ◌++◌, ap, subst, List, ℕ}
 use Rattle.rs01_outside.specs.Files.{Files, Becomes}
-use Rattle.rs01_ecchead.specs.Header.{Fields, head_bytes}
+use Rattle.rs01_ecchead.specs.Header.{head_bytes}
 use Rattle.rs01_ecchead.specs.EccFile.{ecc_file, head_fields, body}
 use Rattle.rs01_create.proofs.create.make_file.Goals as goal
 

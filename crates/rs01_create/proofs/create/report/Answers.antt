@@ -1,4 +1,4 @@
-use Rattle.std.proofs.Common.{◌≡◌, ◌∙◌, ap, length}
+use Rattle.std.proofs.Common.{◌∙◌, ap}
 use Rattle.md5.specs.Md5.{md5}
 use Rattle.rs01_layers.specs.Layout.{layers_of}
 use Rattle.rs01_create.specs.Create.{report_of}

@@ -1,8 +1,7 @@
-use Rattle.std.proofs.Common.{◌≡◌, ◌∙◌, ap, sym, length, ℕ, ◌-◌, arith, List, min}
+use Rattle.std.proofs.Common.{◌≡◌, ◌∙◌, ap, ◌-◌, arith, min}
 use Rattle.md5.specs.Md5.{md5}
-use Rattle.rs01_layers.specs.Sectors.{sectors_of, sector}
-use Rattle.rs01_ecchead.specs.EccFile.{body, head_fields, mark_sector_of}
-use Rattle.rs01_ecchead.specs.Head.{fields_of}
+use Rattle.rs01_layers.specs.Sectors.{sector}
+use Rattle.rs01_ecchead.specs.EccFile.{head_fields, mark_sector_of}
 use Rattle.rs01_create.proofs.Sectors.{is_sector}
 use Rattle.rs01_create.proofs.header.head_of_image.Goals as goal
 

@@ -1,4 +1,4 @@
-use Rattle.std.proofs.Common.{◌≡◌, ◌∙◌, ap, sym, ℕ, List}
+use Rattle.std.proofs.Common.{◌∙◌, ap, sym}
 use Rattle.std.specs.Prelude.{None, Some}
 use Rattle.rs01_outside.specs.Files.{Files}
 use Rattle.rs01_create.specs.Create.{first_marked}

@@ -1,5 +1,5 @@
-use Rattle.std.proofs.Common.{◌≡◌, ◌∙◌, sym, length, ℕ, List, arith}
-use Rattle.std.specs.Prelude.{find, None, Some}
+use Rattle.std.proofs.Common.{◌≡◌, ◌∙◌, arith}
+use Rattle.std.specs.Prelude.{None, Some}
 use Rattle.std.specs.Str.{bytes_eq}
 use Rattle.rs01_layers.specs.Sectors.{sector}
 use Rattle.rs01_sums.specs.Marker.{marker}

@@ -1,4 +1,4 @@
-use Rattle.std.proofs.Common.{◌≡◌, ◌∙◌, ap, ℕ, List, refl, length, arith}
+use Rattle.std.proofs.Common.{◌≡◌, ap, ℕ, List, refl, length, arith}
 use Rattle.std.specs.List.{flat_map, range_with_len}
 use Rattle.rs01_layers.specs.Sectors.{sectors_of}
 use Rattle.rs01_layers.specs.Layout.{layers_of}

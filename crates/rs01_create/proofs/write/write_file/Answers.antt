@@ -1,4 +1,4 @@
-use Rattle.std.proofs.Common.{refl, ◌∙◌, arith}
+use Rattle.std.proofs.Common.{arith}
 use Rattle.rs01_create.proofs.Writes.{on_err, told, left_by_make, left_by_zeros, left_by_body, left_by_header, zeros_stand, body_stands, file_stands, zeros_made}
 use Rattle.rs01_create.proofs.write.write_file.Goals as goal
 

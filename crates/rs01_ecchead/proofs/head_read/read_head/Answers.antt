@@ -1,7 +1,6 @@
-use Rattle.std.proofs.Common.{rules, ◌≡◌, ◌+◌, ◌≤◌, ℕ, List, Bool, true, false, ap, ◌∙◌, sym, arith}
-use Rattle.std.specs.Prelude.{Result, Ok, Err, if◌then◌else◌, ◌==◌}
+use Rattle.std.proofs.Common.{ℕ, ap, ◌∙◌, sym, arith}
+use Rattle.std.specs.Prelude.{Ok, if◌then◌else◌, ◌==◌}
 use Rattle.rs01_ecchead.specs.Header.{head_of, fields_at}
-use Rattle.rs01_ecchead.specs.Head.{fields_of}
 use Rattle.rs01_ecchead.proofs.Accepted.{accepted, no_cookie}
 use Rattle.rs01_ecchead.proofs.head_read.read_head.Goals as goal
 

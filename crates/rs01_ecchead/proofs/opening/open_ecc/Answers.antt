@@ -1,4 +1,4 @@
-use Rattle.std.proofs.Common.{◌≡◌, ◌∙◌, ap, sym, subst, arith}
+use Rattle.std.proofs.Common.{◌≡◌, ◌∙◌, ap, sym, subst}
 use Rattle.std.specs.Prelude.{Err, Ok, IsTrue}
 use Rattle.rs01_layers.specs.Layout.{file_size}
 use Rattle.rs01_ecchead.specs.declared.opened.EccRefusal.{EccRefusal}

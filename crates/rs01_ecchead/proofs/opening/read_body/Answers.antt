@@ -1,4 +1,4 @@
-use Rattle.std.proofs.Common.{◌≡◌, ◌∙◌, ◌+◌, ◌*◌, ◌≤◌, [], ap, sym, subst, List, ℕ, arith, length}
+use Rattle.std.proofs.Common.{◌≡◌, ◌∙◌, ◌+◌, ◌*◌, ◌≤◌, [], ap, sym, subst, arith, length}
 use Rattle.std.specs.Prelude.{IsTrue}
 use Rattle.md5.specs.Md5.{md5}
 use Rattle.rs01_outside.specs.Files.{Files, bytes_of}

@@ -1,7 +1,7 @@
-use Rattle.std.proofs.Common.{rules, ◌≡◌, ◌∙◌, ◌+◌, ◌-◌, ◌≤◌, ◌++◌, ap, sym, subst, length-take, List, length, ℕ, arith}
+use Rattle.std.proofs.Common.{rules, ◌≡◌, sym, subst, length-take, arith}
 use Rattle.std.specs.Prelude.{IsTrue}
 use Rattle.md5.specs.Md5.{Holds}
-use Rattle.rs01_outside.specs.Files.{Files, bytes_of}
+use Rattle.rs01_outside.specs.Files.{bytes_of}
 use Rattle.rs01_ecchead.specs.Header.{part}
 use Rattle.rs01_ecchead.proofs.Parts.{one_more_part, piece_is}
 use Rattle.rs01_ecchead.proofs.pieces.add_rest.Goals as goal

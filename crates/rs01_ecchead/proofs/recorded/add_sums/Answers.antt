@@ -3,7 +3,7 @@ use Rattle.std.specs.Prelude.{IsTrue}
 use Rattle.std.specs.List.{range_with_len}
 use Rattle.std.proofs.lemmas.List.FromFn.{length-map-range_with_len}
 use Rattle.md5.specs.Md5.{Holds}
-use Rattle.rs01_outside.specs.Files.{Files, bytes_of}
+use Rattle.rs01_outside.specs.Files.{bytes_of}
 use Rattle.rs01_ecchead.specs.Header.{part, number_at}
 use Rattle.rs01_ecchead.specs.Recorded.{sums_in}
 use Rattle.rs01_ecchead.proofs.Parts.{one_more_part, piece_is}

@@ -1,4 +1,4 @@
-use Rattle.std.proofs.Common.{◌≡◌, ◌+◌, ◌-◌, ◌*◌, ◌/◌, ◌%◌, ◌≤◌, ◌++◌, List, length, ℕ}
+use Rattle.std.proofs.Common.{◌≡◌, ◌-◌, ◌/◌, ◌%◌, ◌≤◌, ◌++◌, List, length, ℕ}
 use Rattle.std.specs.Prelude.{IsTrue}
 use Rattle.md5.specs.Md5.{Holds}
 use Rattle.rs01_outside.specs.Files.{bytes_of}

@@ -1,4 +1,4 @@
-use Rattle.std.proofs.Common.{◌≡◌, ◌∙◌, ◌+◌, ◌-◌, ◌++◌, ◌≤◌, ap, sym, List, ℕ, length, replicate, arith}
+use Rattle.std.proofs.Common.{◌≡◌, ◌∙◌, ◌-◌, ◌++◌, ap, sym, List, ℕ, length, replicate, arith}
 use Rattle.rs01_layers.specs.Sectors.{padded}
 use Rattle.rs01_outside.specs.Files.{bytes_of}
 use Rattle.rs01_ecchead.specs.Header.{part}

@@ -1,4 +1,4 @@
-use Rattle.std.proofs.Common.{◌≡◌, ◌∙◌, ◌+◌, ◌*◌, ◌≤◌, ap, List, ℕ, length, arith}
+use Rattle.std.proofs.Common.{◌≡◌, ◌∙◌, ◌+◌, ◌*◌, ◌≤◌, List, ℕ, length, arith}
 use Rattle.rs01_layers.specs.Sectors.{block, padded}
 use Rattle.rs01_outside.specs.Files.{bytes_of}
 use Rattle.rs01_ecchead.specs.Header.{part}

@@ -1,0 +1,342 @@
+//! Runs: from words and files to the status, the bytes put, and the files.
+use crate::run_one;
+use rs01_fakes::{MemoryDesk, MemorySink};
+use rs01_outside::{Desk, Failed, Sink};
+use std::alloc::{AllocError, Global};
+use std::process::Abort;
+use std::test::Fail;
+
+// The words of a line, parted by spaces.
+fn words_of(alloc: Global, line: &str) -> Result<Vec<String>, AllocError> {
+    let mut words = Vec::new(alloc);
+    for word in line.split_whitespace() {
+        words.push(String::from_str(alloc, word)?)?;
+    }
+    Ok(words)
+}
+
+// Runs a line, and tells the status and whether these bytes were put.
+fn puts<D: Desk>(
+    alloc: Global,
+    line: &str,
+    desk: &mut D,
+    want: &str,
+) -> Result<(u8, bool), AllocError> {
+    let words = words_of(alloc, line)?;
+    let mut out = MemorySink::new(alloc);
+    let status = run_one(alloc, &words, desk, &mut out);
+    Ok((status, out.bytes() == want.as_bytes() && out.faults() == 0))
+}
+
+// An image of zeros, but for bytes from a place on.
+fn image_with(alloc: Global, len: usize, at: usize, bytes: &[u8]) -> Result<Vec<u8>, AllocError> {
+    let mut image = vec![in alloc; 0u8; len]?;
+    for (into, byte) in image.iter_mut().skip(at).zip(bytes) {
+        *into = *byte;
+    }
+    Ok(image)
+}
+
+fn size_of(desk: &MemoryDesk, name: &str) -> Option<usize> {
+    desk.file(name).map(|file| file.len())
+}
+
+#[test]
+fn words_that_give_no_work(rt: HostRuntime) -> Result<(), Fail> {
+    for (line, want) in [
+        ("", "rs01: word 0: no command\n"),
+        ("burn", "rs01: word 0: unknown command\n"),
+        ("verify a b --cut", "rs01: word 3: not known here\n"),
+        ("fix a b c", "rs01: word 3: not known here\n"),
+        (
+            "create a b --workers 2 --workers 2",
+            "rs01: word 5: given twice\n",
+        ),
+        ("create a b --parity", "rs01: word 3: needs a value\n"),
+        ("create a b --parity x", "rs01: word 4: not a number\n"),
+        ("create a b --parity 7", "rs01: word 4: out of range\n"),
+        ("create a b --parity 101", "rs01: word 4: out of range\n"),
+        ("create a b --workers 0", "rs01: word 4: out of range\n"),
+        ("create a", "rs01: word 2: something is missing\n"),
+        ("create a a", "rs01: word 2: the same name twice\n"),
+        ("fix a b", "rs01: not built yet\n"),
+        ("scan --drive d", "rs01: not built yet\n"),
+        ("read a --drive d", "rs01: not built yet\n"),
+        ("demo 1 300 32 40", "rs01: not built yet\n"),
+    ] {
+        let mut desk = MemoryDesk::new(rt.alloc());
+        desk.put_file(rt.alloc(), "a", b"abc")?;
+        assert_eq!(rt;
+            puts(rt.alloc(), line, &mut desk, want)?,
+            (2, true),
+            "{line}"
+        );
+        assert!(rt; desk.file("a") == Some(b"abc".as_slice()), "{line}");
+        assert!(rt; desk.file("b").is_none(), "{line}");
+    }
+    Ok(())
+}
+
+#[test]
+fn images(rt: HostRuntime) -> Result<(), Fail> {
+    // The length of an image, where bytes stand that aren't zero, and these; the status, the length of the file, and
+    // what is put.
+    let cases: [(usize, usize, &[u8], u8, Option<usize>, &str); 8] = [
+        (
+            3,
+            0,
+            b"abc",
+            0,
+            Some(69_636),
+            "created disc.ecc\nsectors 1, layers 1, parity 32\nlast sector 3 bytes\nimage md5 900150983cd24fb0d6963f7d28e17f72\n",
+        ),
+        (
+            2048,
+            0,
+            b"",
+            0,
+            Some(69_636),
+            "created disc.ecc\nsectors 1, layers 1, parity 32\nlast sector 2048 bytes\nimage md5 c99a74c555371a433d121f551d6c6398\n",
+        ),
+        (0, 0, b"", 3, None, "rs01: the image is empty\n"),
+        (
+            2049,
+            0,
+            b"",
+            0,
+            Some(69_640),
+            "created disc.ecc\nsectors 2, layers 1, parity 32\nlast sector 1 bytes\nimage md5 8f40e11d1419c18b04578152536da294\n",
+        ),
+        (
+            456_704,
+            454_656,
+            &[1],
+            0,
+            Some(70_524),
+            "created disc.ecc\nsectors 223, layers 1, parity 32\nlast sector 2048 bytes\nimage md5 77729311ce6b008376e7ddd534e15825\n",
+        ),
+        (
+            458_752,
+            0,
+            b"",
+            0,
+            Some(136_064),
+            "created disc.ecc\nsectors 224, layers 2, parity 32\nlast sector 2048 bytes\nimage md5 72b5e7556a604b06e790401ecc7b5b2d\n",
+        ),
+        (
+            20_480,
+            14_336,
+            b"rs01 missing sector 0000000007\n",
+            3,
+            None,
+            "rs01: sector 7 is marked as missing\n",
+        ),
+        (
+            20_480,
+            14_336,
+            b"rs01 missing sector 0000000008\n",
+            0,
+            Some(69_672),
+            "created disc.ecc\nsectors 10, layers 1, parity 32\nlast sector 2048 bytes\nimage md5 568ce25c76d7a2f5cc940533937e6276\n",
+        ),
+    ];
+    for (len, at, bytes, status, size, want) in cases {
+        let mut desk = MemoryDesk::new(rt.alloc());
+        let image = image_with(rt.alloc(), len, at, bytes)?;
+        desk.put_file(rt.alloc(), "disc.iso", &image)?;
+        let ran = puts(rt.alloc(), "create disc.iso disc.ecc", &mut desk, want)?;
+        assert_eq!(rt; ran, (status, true), "{want}");
+        assert_eq!(rt; size_of(&desk, "disc.ecc"), size, "{want}");
+        assert!(rt; desk.file("disc.iso") == Some(image.as_slice()), "{want}");
+    }
+    Ok(())
+}
+
+#[test]
+fn another_number_of_parity_bytes(rt: HostRuntime) -> Result<(), Fail> {
+    let mut desk = MemoryDesk::new(rt.alloc());
+    desk.put_file(rt.alloc(), "disc.iso", b"abc")?;
+    for (line, size, want) in [
+        (
+            "create disc.iso a --parity 8",
+            20_484,
+            "created a\nsectors 1, layers 1, parity 8\nlast sector 3 bytes\nimage md5 900150983cd24fb0d6963f7d28e17f72\n",
+        ),
+        (
+            "create --parity high disc.iso a",
+            135_172,
+            "created a\nsectors 1, layers 1, parity 64\nlast sector 3 bytes\nimage md5 900150983cd24fb0d6963f7d28e17f72\n",
+        ),
+    ] {
+        assert_eq!(rt;
+            puts(rt.alloc(), line, &mut desk, want)?,
+            (0, true),
+            "{line}"
+        );
+        assert_eq!(rt; size_of(&desk, "a"), Some(size), "{line}");
+    }
+    Ok(())
+}
+
+#[test]
+fn faults(rt: HostRuntime) -> Result<(), Fail> {
+    // The failing call of the desk and the failing put; the status, the length of the file, and what is put.
+    let cases: [(u64, u64, u8, Option<usize>, &str); 5] = [
+        (99, 0, 6, Some(69_636), ""),
+        (0, 99, 4, None, "rs01: reading a file failed\n"),
+        (1, 99, 4, None, "rs01: reading a file failed\n"),
+        (2, 99, 4, None, "rs01: writing a file failed\n"),
+        (4, 99, 4, Some(4096), "rs01: writing a file failed\n"),
+    ];
+    for (call, put, status, size, want) in cases {
+        let mut desk = MemoryDesk::new(rt.alloc());
+        let words = words_of(rt.alloc(), "create disc.iso disc.ecc")?;
+        desk.put_file(rt.alloc(), "disc.iso", b"abc")?;
+        desk.fail_call(call);
+        let mut out = MemorySink::new(rt.alloc());
+        out.fail_put(put);
+        let ended = run_one(rt.alloc(), &words, &mut desk, &mut out);
+        assert_eq!(rt; ended, status, "call {call}");
+        assert!(rt; out.bytes() == want.as_bytes(), "call {call}");
+        assert_eq!(rt; size_of(&desk, "disc.ecc"), size, "call {call}");
+    }
+    let mut desk = MemoryDesk::new(rt.alloc());
+    let absent = puts(rt.alloc(), "create a b", &mut desk, "rs01: no image\n")?;
+    assert_eq!(rt; absent, (3, true));
+    Ok(())
+}
+
+// A desk with an image of 224 sectors of zeros and its error correction file.
+fn protected(alloc: Global) -> Result<MemoryDesk, AllocError> {
+    let mut desk = MemoryDesk::new(alloc);
+    let image = image_with(alloc, 224 * 2048, 0, b"")?;
+    desk.put_file(alloc, "disc.iso", &image)?;
+    let words = words_of(alloc, "create disc.iso disc.ecc")?;
+    let _status = run_one(alloc, &words, &mut desk, &mut MemorySink::new(alloc));
+    Ok(desk)
+}
+
+#[test]
+fn checked_images(rt: HostRuntime) -> Result<(), Fail> {
+    // How the image is cut, and the bytes that are put at a place of it; the status, and what is put.
+    let cases: [(u64, u64, &[u8], u8, &str); 4] = [
+        (
+            458_752,
+            0,
+            b"",
+            0,
+            "checked disc.iso\nsectors 224, layers 2, parity 32\nmissing 0: none\naltered 0: none\nfullest layer 0: 0 of 32\nlayers beyond 0\nsurplus bytes 0\nfingerprint matches\nimage md5 matches\n",
+        ),
+        (
+            458_752,
+            10_240,
+            &[1],
+            1,
+            "checked disc.iso\nsectors 224, layers 2, parity 32\nmissing 0: none\naltered 1: 5\nfullest layer 1: 1 of 32\nlayers beyond 0\nsurplus bytes 0\nfingerprint matches\nimage md5 differs\n",
+        ),
+        (
+            458_252,
+            0,
+            b"",
+            1,
+            "checked disc.iso\nsectors 224, layers 2, parity 32\nmissing 1: 223\naltered 0: none\nfullest layer 1: 1 of 32\nlayers beyond 0\nsurplus bytes 0\nfingerprint matches\nimage md5 short\n",
+        ),
+        (
+            458_752,
+            458_752,
+            b"rs01",
+            0,
+            "checked disc.iso\nsectors 224, layers 2, parity 32\nmissing 0: none\naltered 0: none\nfullest layer 0: 0 of 32\nlayers beyond 0\nsurplus bytes 4\nfingerprint matches\nimage md5 matches\n",
+        ),
+    ];
+    for (len, at, bytes, status, want) in cases {
+        let mut desk = protected(rt.alloc())?;
+        assert!(rt;
+            desk.cut("disc.iso", len).is_ok() && desk.write_at("disc.iso", at, bytes).is_ok()
+        );
+        let ran = puts(rt.alloc(), "verify disc.iso disc.ecc", &mut desk, want)?;
+        assert_eq!(rt; ran, (status, true), "{want}");
+    }
+    Ok(())
+}
+
+#[test]
+fn files_that_check_no_image(rt: HostRuntime) -> Result<(), Fail> {
+    // How the error correction file is cut, and what is put.
+    for (len, want) in [
+        (
+            136_063,
+            "rs01: the file has 136063 bytes, 136064 are expected\n",
+        ),
+        (0, "rs01: the file has 0 bytes, 4096 are expected\n"),
+    ] {
+        let mut desk = protected(rt.alloc())?;
+        assert!(rt; desk.cut("disc.ecc", len).is_ok());
+        let ran = puts(rt.alloc(), "verify disc.iso disc.ecc", &mut desk, want)?;
+        assert_eq!(rt; ran, (3, true), "{want}");
+    }
+    let mut desk = protected(rt.alloc())?;
+    let want = "rs01: no error correction file\n";
+    let ran = puts(rt.alloc(), "verify disc.iso other.ecc", &mut desk, want)?;
+    assert_eq!(rt; ran, (3, true));
+    let ran = puts(
+        rt.alloc(),
+        "verify other.iso disc.ecc",
+        &mut desk,
+        "rs01: no image\n",
+    )?;
+    assert_eq!(rt; ran, (3, true));
+    Ok(())
+}
+
+// A desk that tells nothing, on which each name is an image of one byte more than can be protected.
+#[derive(Drop)]
+struct VastDesk;
+
+impl Desk for VastDesk {
+    ghost use Rattle.std.specs.Prelude.{false, None};
+
+    ghost tells = { λ _. false };
+
+    ghost files = { λ _ name. None };
+
+    ghost read_faults = { λ _. 0 };
+
+    ghost write_faults = { λ _. 0 };
+
+    fn size(&mut self, _name: &str) -> Result<Option<u64>, Failed> {
+        Ok(Some(34_359_736_321))
+    }
+
+    fn read_at(&mut self, _name: &str, _at: u64, _into: &mut [u8]) -> Result<usize, Failed> {
+        Ok(0)
+    }
+
+    fn write_at(&mut self, _name: &str, _at: u64, _bytes: &[u8]) -> Result<(), Failed> {
+        Ok(())
+    }
+
+    fn make(&mut self, _name: &str) -> Result<(), Failed> {
+        Ok(())
+    }
+
+    fn cut(&mut self, _name: &str, _len: u64) -> Result<(), Failed> {
+        Ok(())
+    }
+
+    fn read_faults(&self) -> u64 {
+        0
+    }
+
+    fn write_faults(&self) -> u64 {
+        0
+    }
+}
+
+#[test]
+fn one_sector_too_many(rt: HostRuntime) -> Result<(), Fail> {
+    let want = "rs01: the image has 16777216 sectors, at most 16777215 are possible\n";
+    let ran = puts(rt.alloc(), "create disc.iso disc.ecc", &mut VastDesk, want)?;
+    assert_eq!(rt; ran, (3, true));
+    Ok(())
+}
