@@ -1,15 +1,7 @@
 -- A list put together from the pieces f 0, f 1, f 2 and so on, one more at a time.
-use Rattle.std.proofs.Common.{◌≡◌, ℕ, ◌+◌, List, [], ◌∷◌, ◌++◌, sym, ap, ◌∙◌, arith, add-one, append_assoc, append-nil}
+use Rattle.std.proofs.Common.{◌≡◌, ℕ, ◌+◌, List, ◌++◌, sym, ap, ◌∙◌, add-one, append_assoc}
 use Rattle.std.specs.List.{flat_map, range_with_len}
-use Rattle.std.proofs.lemmas.List.Concat.{flat_map-append}
-use Rattle.rs01_ecchead.proofs.Ranges.{range_with_len_more}
-
-pieces_more : (f : ℕ → List ℕ) (n : ℕ) → flat_map f (range_with_len 0 (n + 1)) ≡ flat_map f (range_with_len 0 n) ++ f n
-pieces_more f n =
-    ap (λ k. flat_map f (range_with_len 0 k)) (add-one n)
-    ∙ ap (flat_map f) (range_with_len_more 0 n ∙ ap (λ k. range_with_len 0 n ++ k ∷ []) (let e : 0 + n ≡ n = omega arith in e))
-    ∙ flat_map-append f (range_with_len 0 n) (n ∷ [])
-    ∙ ap (λ xs. flat_map f (range_with_len 0 n) ++ xs) (append-nil (f n))
+use Rattle.rs01_ecchead.proofs.Flats.{flat_more}
 
 -- what was there, then the first n pieces, and then one more
 pub one_more_piece : (f : ℕ → List ℕ) (before now piece after : List ℕ) (n : ℕ)
@@ -17,7 +9,7 @@ pub one_more_piece : (f : ℕ → List ℕ) (before now piece after : List ℕ) 
     → after ≡ before ++ flat_map f (range_with_len 0 (n + 1))
 one_more_piece f before now piece after n held e put =
     put ∙ (λ i. held i ++ e i) ∙ append_assoc before (flat_map f (range_with_len 0 n)) (f n)
-    ∙ ap (λ xs. before ++ xs) (sym (pieces_more f n))
+    ∙ ap (λ xs. before ++ xs) (sym (ap (λ k. flat_map f (range_with_len 0 k)) (add-one n) ∙ flat_more f n))
 
 -- all pieces, once the count of them is reached
 pub all_pieces : (f : ℕ → List ℕ) (before now whole : List ℕ) (n count : ℕ) → n ≡ count

@@ -65,7 +65,9 @@ fn make_file<D: Desk>(
 ///
 /// The image is held whole. The refusals that come from the image are told in their order before anything is written.
 /// Then the name is made, 4096 zeros are written, then the body, and the header last. No other file changes. After a
-/// fault or want of memory the file under `ecc` is as before, or one that isn't to be used.
+/// fault or want of memory the file under `ecc` is as before, or its first 4096 bytes are zeros as far as they are there,
+/// or they begin as the header does and are zeros then. Such a file isn't to be used: where the last write broke off
+/// inside the header it can look whole, with a wrong number of bytes in the last sector.
 pub fn create_one<D: Desk>(
     alloc: Global,
     desk: &mut D,

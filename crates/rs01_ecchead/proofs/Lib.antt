@@ -6,3 +6,5 @@ mod Parts
 mod RoundTrip
 pub mod Ranges
 mod RecordedSums
+pub mod Flats
+pub mod ReadAgain

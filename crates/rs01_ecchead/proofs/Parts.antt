@@ -1,7 +1,7 @@
 -- Parts of a file that stand behind each other.
 use Rattle.std.proofs.Common.{◌≡◌, ℕ, ◌+◌, ◌-◌, ◌*◌, ◌≤◌, List, [], ◌++◌, length, take, drop, refl, sym, ap, ◌∙◌, arith, append_assoc}
-use Rattle.std.proofs.Math.Seq.{take-add}
-use Rattle.std.proofs.lemmas.List.{drop-drop, take_all, length-drop}
+use Rattle.std.proofs.Math.Seq.{take-add, take-append_seam, drop-append-add}
+use Rattle.std.proofs.lemmas.List.{drop-drop, drop-append-le, take-append-le, take_all, length-drop}
 use Rattle.rs01_outside.specs.Files.{Files, bytes_of}
 use Rattle.rs01_ecchead.specs.Header.{part}
 
@@ -38,3 +38,16 @@ two_parts f0 f1 name n from to e start order long =
     ∙ one_more_part file [] (part file from (to - from)) 4096 from (to - from) (omega arith) refl
     ∙ ap (part file 4096) total
     ∙ take_all (length file - 4096) (drop 4096 file) (omega (arith, length-drop 4096 file))
+
+-- past a piece of k bytes
+pub skip : (a xs : List ℕ) (k m n : ℕ) → length a ≡ k → part (a ++ xs) (k + m) n ≡ part xs m n
+skip a xs k m n e = ap (take n) ((λ i. drop (sym e i + m) (a ++ xs)) ∙ drop-append-add a xs m)
+
+-- the piece of n bytes at the front
+pub first : (a xs : List ℕ) (n : ℕ) → length a ≡ n → part (a ++ xs) 0 n ≡ a
+first a xs n e = (λ i. take (sym e i) (a ++ xs)) ∙ take-append_seam a xs
+
+-- a part that lies in the front one of two lists
+pub inside : (a xs : List ℕ) (at n : ℕ) → at + n ≤ length a → part (a ++ xs) at n ≡ part a at n
+inside a xs at n fits =
+    ap (take n) (drop-append-le at a xs (omega arith)) ∙ take-append-le n (drop at a) xs (omega (arith, length-drop at a))

@@ -1,22 +1,14 @@
 -- A header is read as it was written.
-use Rattle.std.proofs.Common.{◌≡◌, ℕ, ◌+◌, ◌-◌, ◌^◌, ◌<◌, ◌≤◌, List, ◌++◌, length, take, drop, refl, sym, ap, ◌∙◌, arith, append_assoc}
+use Rattle.std.proofs.Common.{◌≡◌, ℕ, ◌+◌, ◌-◌, ◌^◌, ◌<◌, ◌≤◌, List, ◌++◌, length, refl, ap, ◌∙◌, arith, append_assoc}
 use Rattle.std.specs.Prelude.{codes, Ok, if◌then◌else◌, ◌==◌}
 use Rattle.std.specs.Int.{to_le_bytes, from_le_bytes, w32, w64}
-use Rattle.std.proofs.Math.Seq.{take-append_seam, drop-append-add}
 use Rattle.std.proofs.lemmas.Nat.{from_le_bytes-to_le_bytes_4, from_le_bytes-to_le_bytes_8}
 use Rattle.rs01_ecchead.specs.Header.{Fields, zeros, part, number_at, wide_number_at, head_bytes, front_bytes, number_bytes, end_bytes, fields_at, head_of, AreFields, ReadsBack}
 use Rattle.std.specs.Str.{bytes_eq}
 use Rattle.std.proofs.lemmas.Bool.Decides.{nat_tests}
 use Rattle.rs01_ecchead.proofs.Accepted.{accepted}
 use Rattle.rs01_ecchead.proofs.Zeros.{length-zeros}
-
--- past a piece of k bytes
-skip : (a xs : List ℕ) (k m n : ℕ) → length a ≡ k → part (a ++ xs) (k + m) n ≡ part xs m n
-skip a xs k m n e = ap (take n) ((λ i. drop (sym e i + m) (a ++ xs)) ∙ drop-append-add a xs m)
-
--- the piece of n bytes at the front
-first : (a xs : List ℕ) (n : ℕ) → length a ≡ n → part (a ++ xs) 0 n ≡ a
-first a xs n e = (λ i. take (sym e i) (a ++ xs)) ∙ take-append_seam a xs
+use Rattle.rs01_ecchead.proofs.Parts.{first, skip}
 
 -- the 13 pieces of a header, one after the other
 pieces : (fl fp im bs ns ds rs cs vs ms ls : List ℕ) → List ℕ

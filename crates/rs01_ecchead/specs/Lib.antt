@@ -4,3 +4,4 @@ pub mod EccFile
 pub mod Recorded
 pub mod Opened
 pub mod Erased
+pub mod ReadAgain

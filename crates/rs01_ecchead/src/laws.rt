@@ -1,6 +1,7 @@
-//! What holds of headers and of erased sectors as a whole.
+//! What holds of headers, of whole files and of erased sectors.
 ghost use Rattle.rs01_ecchead.specs.Erased.{ErasedIsMissingOrAltered, MissingIsNotAltered};
 ghost use Rattle.rs01_ecchead.specs.Header.{ReadsBack};
+ghost use Rattle.rs01_ecchead.specs.ReadAgain.{AreReadAgain};
 
 /// A header is read as it was written: reading the bytes of any fields in range gives these fields.
 pub fn headers_read_back()
@@ -11,4 +12,10 @@ pub fn headers_read_back()
 pub fn erased_sectors_are_missing_or_altered()
     ensures either { ErasedIsMissingOrAltered }
     ensures not_both { MissingIsNotAltered }
+{}
+
+/// The error correction file of an image of 1 byte to 16,777,215 sectors, with 8 to 100 parity bytes a codeword, is
+/// opened, and tells the fields, the checksums and the parity of this image.
+pub fn files_are_read_again()
+    ensures { AreReadAgain }
 {}

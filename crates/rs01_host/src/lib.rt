@@ -1,7 +1,8 @@
 //! The real outside: files of the system, and its standard output.
 //!
 //! These tell nothing of contents. What is proved of them is that they are safe whatever the system
-//! does, that each failure is counted, and that no failure is passed over.
+//! does, that they answer a failure only where its count rose, and that after any other answer no
+//! count rose. That a failure of the system becomes such an answer, tests show.
 #![tactic(auto)]
 
 mod fault_count;
