@@ -1,15 +1,14 @@
 -- The restored blocks while they are being made, and what they are in the end.
 use Rattle.std.proofs.Common.{◌≡◌, ℕ, ◌+◌, ◌-◌, ◌*◌, ◌<◌, ◌≤◌, List, [], ◌∷◌, ◌++◌, length, get_or, take, drop, map, refl, sym, ap, ◌∙◌, arith, Bool, true, false, cond, eqb, ltb, eq-eqb, Option, Some, None, set, subst, Result, Err}
-use Rattle.std.specs.Prelude.{not, is_some, is_none, IsSome, IsNone, unwrap_or, ◌↔◌}
+use Rattle.std.specs.Prelude.{not, is_none, IsSome, IsNone, unwrap_or, ◌↔◌}
 use Rattle.std.specs.List.{find, filter, range_with_len}
 use Rattle.std.specs.Option.{option_map, option_map_or}
-use Rattle.std.proofs.lemmas.Bool.{cond-true, cond-false, lt-ltb, le-ltb, ltb-false, not_from_true, not_from_false, ne_eqb}
-use Rattle.std.proofs.lemmas.List.{get_or-take, get_or-drop, length-take, length-drop, length-map, map-id, take_more_set, append-nil}
+use Rattle.std.proofs.lemmas.Bool.{cond-true, cond-false, lt-ltb, le-ltb, not_from_true, not_from_false, ne_eqb}
+use Rattle.std.proofs.lemmas.List.{get_or-take, get_or-drop, length-take, length-drop, map-id, take_more_set, append-nil}
 use Rattle.std.proofs.lemmas.List.Elements.{filter-append}
 use Rattle.std.proofs.lemmas.List.FromFn.{length-range_with_len, map-range_with_len_more, fill_by_all}
 use Rattle.rs01_layers.specs.declared.input.LayerInput.{LayerInput}
 use Rattle.rs01_layers.specs.declared.lists.Placed.{Placed}
-use Rattle.rs01_layers.specs.declared.task.LayerOut.{LayerOut}
 use Rattle.rs01_layers.specs.declared.task.LayerOut.TheVariants.{Restored, Beyond, Inconsistent, BadSum}
 use Rattle.rs01_layers.specs.Layer.{column}
 use Rattle.rs01_layers.specs.Blocks.{blocks_of}
