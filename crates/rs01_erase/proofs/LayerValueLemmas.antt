@@ -4,7 +4,7 @@ use Rattle.std.proofs.Common.{◌≡◌, ℕ, ◌-◌, ◌*◌, ◌^◌, ◌<◌
 use Rattle.std.specs.Prelude.{not, is_none, unwrap_or}
 use Rattle.std.specs.List.{find, range_with_len, All}
 use Rattle.std.specs.Option.{option_map_or}
-use Rattle.std.proofs.lemmas.Bool.{cases_lt, cond-false, le-ltb, ltb-false, not_from_true, eqb-true, not-false, false≢true}
+use Rattle.std.proofs.lemmas.Bool.{cases_lt, cond-true, cond-false, lt-ltb, le-ltb, ltb-true, ltb-false, not_from_true, eqb-true, not-false, false≢true}
 use Rattle.std.proofs.lemmas.List.{get_or_append_left, get_or-append_right, get_or_past}
 use Rattle.std.proofs.lemmas.List.Elements.{All-get_or, All-from_get_or, All-map, All-same}
 use Rattle.std.proofs.lemmas.List.FromFn.{length-range_with_len, length-map-range_with_len, get_or-map-range_with_len, fill_by_all}
@@ -236,6 +236,35 @@ intact_layer_is_restored original blocks flags sums parity r intact most few =
     let inside : p < 255 - r = omega (arith, erased_below_at flags k h, intact.flag_count) in
     let same : restored_block blocks flags parity r p ≡ get_or original p [] = restored_block-intact original blocks flags sums parity r p intact most few inside in
     (λ i. record { place = p; block = same i })))
+
+-- ---- a layer of which too much is lost
+
+pub correct_of-beyond : (blocks : List (List ℕ)) (flags : List Bool) (sums parity : List ℕ) (r : ℕ) → r < length (erased_places flags)
+    → correct_of blocks flags sums parity r ≡ Beyond (length (erased_places flags))
+unfolding correct_of
+correct_of-beyond blocks flags sums parity r many =
+    let places : List ℕ = erased_places flags in
+    cond-true (ltb r (length places)) (Beyond (length places))
+    (option_map_or (λ b. Inconsistent b) (first_inconsistent blocks flags parity r)
+    (option_map_or (λ p. BadSum p) (first_bad_sum blocks flags sums parity r) (Restored (placed (restored_block blocks flags parity r) places))))
+    (lt-ltb r (length places) many)
+
+-- and of no other layer that is said
+only_beyond : (b : Bool) (m n : ℕ) (o q : Option ℕ) (all : List Placed)
+    → cond b (Beyond m) (option_map_or (λ c. Inconsistent c) o (option_map_or (λ p. BadSum p) q (Restored all))) ≡ Beyond n → (b ≡ true) × (n ≡ m)
+only_beyond true m n o q all e = (refl, (let same : n ≡ m = cc in same))
+only_beyond false m n (Some c) q all e = absurd (let never : ⊥ = cc in never)
+only_beyond false m n None (Some p) all e = absurd (let never : ⊥ = cc in never)
+only_beyond false m n None None all e = absurd (let never : ⊥ = cc in never)
+
+pub beyond-says : (blocks : List (List ℕ)) (flags : List Bool) (sums parity : List ℕ) (r n : ℕ) → correct_of blocks flags sums parity r ≡ Beyond n
+    → (r < length (erased_places flags)) × (n ≡ length (erased_places flags))
+unfolding correct_of
+beyond-says blocks flags sums parity r n e =
+    let places : List ℕ = erased_places flags in
+    let parts = only_beyond (ltb r (length places)) (length places) n (first_inconsistent blocks flags parity r) (first_bad_sum blocks flags sums parity r)
+    (placed (restored_block blocks flags parity r) places) e in
+    (ltb-true r (length places) parts.0, parts.1)
 
 -- ---- what the answer Restored says
 
