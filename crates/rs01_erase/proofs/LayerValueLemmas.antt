@@ -1,11 +1,11 @@
 -- What correcting gives of a layer: it says nothing of lost blocks, its restored blocks are blocks, and it is the original
 -- of an intact layer.
-use Rattle.std.proofs.Common.{◌≡◌, ℕ, ◌+◌, ◌-◌, ◌*◌, ◌^◌, ◌<◌, ◌≤◌, List, [], ◌∷◌, ◌++◌, length, get_or, take, drop, map, refl, sym, ap, ◌∙◌, subst, arith, Bool, true, false, cond, ltb, eqb, eq-eqb, Option, Some, None, ⊎_elim, length-append}
+use Rattle.std.proofs.Common.{◌≡◌, ℕ, ◌-◌, ◌*◌, ◌^◌, ◌<◌, ◌≤◌, List, [], ◌∷◌, ◌++◌, length, get_or, take, drop, map, refl, sym, ap, ◌∙◌, subst, arith, Bool, true, false, cond, ltb, eqb, eq-eqb, Option, Some, None, ⊎_elim, length-append}
 use Rattle.std.specs.Prelude.{not, is_none, unwrap_or}
-use Rattle.std.specs.List.{find, range_with_len, All, Contains}
+use Rattle.std.specs.List.{find, range_with_len, All}
 use Rattle.std.specs.Option.{option_map_or}
-use Rattle.std.proofs.lemmas.Bool.{cases_lt, cond-false, le-ltb, ltb-false, not_from_true, eqb-true, not-false, false≢true}
-use Rattle.std.proofs.lemmas.List.{get_or_append_left, get_or-append_right, get_or_past, length-map}
+use Rattle.std.proofs.lemmas.Bool.{cases_lt, cond-true, cond-false, lt-ltb, le-ltb, ltb-true, ltb-false, not_from_true, eqb-true, not-false, false≢true}
+use Rattle.std.proofs.lemmas.List.{get_or_append_left, get_or-append_right, get_or_past}
 use Rattle.std.proofs.lemmas.List.Elements.{All-get_or, All-from_get_or, All-map, All-same}
 use Rattle.std.proofs.lemmas.List.FromFn.{length-range_with_len, length-map-range_with_len, get_or-map-range_with_len, fill_by_all}
 use Rattle.rs01_poly.specs.Code.{IsCodeword, AgreeOutside, encode}
@@ -14,7 +14,7 @@ use Rattle.rs01_poly.proofs.Difference.{encoding_is_codeword}
 use Rattle.rs01_layers.specs.Layer.{column}
 use Rattle.rs01_layers.specs.declared.lists.Placed.{Placed}
 use Rattle.rs01_layers.specs.declared.task.LayerOut.{LayerOut}
-use Rattle.rs01_layers.specs.declared.task.LayerOut.TheVariants.{Parity, Restored, Beyond, Inconsistent, BadSum}
+use Rattle.rs01_layers.specs.declared.task.LayerOut.TheVariants.{Restored, Beyond, Inconsistent, BadSum}
 use Rattle.rs01_layers.proofs.BlockLemmas.{length-column, get_or-column}
 use Rattle.rs01_sums.specs.Crc.{crc}
 use Rattle.rs01_erase.specs.Completion.{completion}
@@ -22,7 +22,7 @@ use Rattle.rs01_erase.specs.LayerValue.{codewords, erased_places, word_of, compl
 use Rattle.rs01_erase.specs.Correcting.{AgreeWhereHeld, AgreeWhereErased, IsBlock, IsIntact}
 use Rattle.rs01_erase.proofs.Elimination.{bytes_of_all}
 use Rattle.rs01_erase.proofs.Completions.{completion-same, completion-completes, completion-is, Completes}
-use Rattle.rs01_erase.proofs.Found.{find_first, find_none, none_passes, find_same, map_same}
+use Rattle.rs01_erase.proofs.Found.{find_none, none_passes, find_same, map_same}
 use Rattle.rs01_erase.proofs.ErasedPlaces.{number_in_range, erased_rise, erased_below_at, erased_flagged, held_unflagged}
 
 pub codewords-is : codewords ≡ 2048
@@ -236,6 +236,35 @@ intact_layer_is_restored original blocks flags sums parity r intact most few =
     let inside : p < 255 - r = omega (arith, erased_below_at flags k h, intact.flag_count) in
     let same : restored_block blocks flags parity r p ≡ get_or original p [] = restored_block-intact original blocks flags sums parity r p intact most few inside in
     (λ i. record { place = p; block = same i })))
+
+-- ---- a layer of which too much is lost
+
+pub correct_of-beyond : (blocks : List (List ℕ)) (flags : List Bool) (sums parity : List ℕ) (r : ℕ) → r < length (erased_places flags)
+    → correct_of blocks flags sums parity r ≡ Beyond (length (erased_places flags))
+unfolding correct_of
+correct_of-beyond blocks flags sums parity r many =
+    let places : List ℕ = erased_places flags in
+    cond-true (ltb r (length places)) (Beyond (length places))
+    (option_map_or (λ b. Inconsistent b) (first_inconsistent blocks flags parity r)
+    (option_map_or (λ p. BadSum p) (first_bad_sum blocks flags sums parity r) (Restored (placed (restored_block blocks flags parity r) places))))
+    (lt-ltb r (length places) many)
+
+-- and of no other layer that is said
+only_beyond : (b : Bool) (m n : ℕ) (o q : Option ℕ) (all : List Placed)
+    → cond b (Beyond m) (option_map_or (λ c. Inconsistent c) o (option_map_or (λ p. BadSum p) q (Restored all))) ≡ Beyond n → (b ≡ true) × (n ≡ m)
+only_beyond true m n o q all e = (refl, (let same : n ≡ m = cc in same))
+only_beyond false m n (Some c) q all e = absurd (let never : ⊥ = cc in never)
+only_beyond false m n None (Some p) all e = absurd (let never : ⊥ = cc in never)
+only_beyond false m n None None all e = absurd (let never : ⊥ = cc in never)
+
+pub beyond-says : (blocks : List (List ℕ)) (flags : List Bool) (sums parity : List ℕ) (r n : ℕ) → correct_of blocks flags sums parity r ≡ Beyond n
+    → (r < length (erased_places flags)) × (n ≡ length (erased_places flags))
+unfolding correct_of
+beyond-says blocks flags sums parity r n e =
+    let places : List ℕ = erased_places flags in
+    let parts = only_beyond (ltb r (length places)) (length places) n (first_inconsistent blocks flags parity r) (first_bad_sum blocks flags sums parity r)
+    (placed (restored_block blocks flags parity r) places) e in
+    (ltb-true r (length places) parts.0, parts.1)
 
 -- ---- what the answer Restored says
 

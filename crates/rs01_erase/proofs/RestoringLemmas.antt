@@ -1,15 +1,14 @@
 -- The restored blocks while they are being made, and what they are in the end.
 use Rattle.std.proofs.Common.{◌≡◌, ℕ, ◌+◌, ◌-◌, ◌*◌, ◌<◌, ◌≤◌, List, [], ◌∷◌, ◌++◌, length, get_or, take, drop, map, refl, sym, ap, ◌∙◌, arith, Bool, true, false, cond, eqb, ltb, eq-eqb, Option, Some, None, set, subst, Result, Err}
-use Rattle.std.specs.Prelude.{not, is_some, is_none, IsSome, IsNone, unwrap_or, ◌↔◌}
+use Rattle.std.specs.Prelude.{not, is_none, IsSome, IsNone, unwrap_or, ◌↔◌}
 use Rattle.std.specs.List.{find, filter, range_with_len}
 use Rattle.std.specs.Option.{option_map, option_map_or}
-use Rattle.std.proofs.lemmas.Bool.{cond-true, cond-false, lt-ltb, le-ltb, ltb-false, not_from_true, not_from_false, ne_eqb}
-use Rattle.std.proofs.lemmas.List.{get_or-take, get_or-drop, length-take, length-drop, length-map, map-id, take_more_set, append-nil}
+use Rattle.std.proofs.lemmas.Bool.{cond-true, cond-false, le-ltb, not_from_true, not_from_false, ne_eqb}
+use Rattle.std.proofs.lemmas.List.{get_or-take, get_or-drop, length-take, length-drop, map-id, take_more_set, append-nil}
 use Rattle.std.proofs.lemmas.List.Elements.{filter-append}
 use Rattle.std.proofs.lemmas.List.FromFn.{length-range_with_len, map-range_with_len_more, fill_by_all}
 use Rattle.rs01_layers.specs.declared.input.LayerInput.{LayerInput}
 use Rattle.rs01_layers.specs.declared.lists.Placed.{Placed}
-use Rattle.rs01_layers.specs.declared.task.LayerOut.{LayerOut}
 use Rattle.rs01_layers.specs.declared.task.LayerOut.TheVariants.{Restored, Beyond, Inconsistent, BadSum}
 use Rattle.rs01_layers.specs.Layer.{column}
 use Rattle.rs01_layers.specs.Blocks.{blocks_of}
@@ -22,7 +21,7 @@ use Rattle.rs01_erase.specs.Correcting.{blocks_in, correct}
 use Rattle.rs01_erase.specs.Restoring.{HoldsByte, block_in, bad_sum_in, completed_at, placed_blocks}
 use Rattle.rs01_erase.proofs.Found.{find_first, find_none, find_same, map_same}
 use Rattle.rs01_erase.proofs.ErasedPlaces.{number_in_range}
-use Rattle.rs01_erase.proofs.LayerValueLemmas.{codewords-is}
+use Rattle.rs01_erase.proofs.LayerValueLemmas.{codewords-is, correct_of-beyond}
 
 -- ---- the erased places
 
@@ -232,15 +231,9 @@ consistent input all =
 
 -- more places are erased than a codeword has parity bytes
 pub correct-beyond : (input : LayerInput) (n : ℕ) → n ≡ length (erased_places input.erased) → input.parity_count < n → correct input ≡ Beyond n
-unfolding correct correct_of
+unfolding correct
 correct-beyond input n count many =
-    let places : List ℕ = erased_places input.erased in
-    cond-true (ltb input.parity_count (length places)) (Beyond (length places))
-    (option_map_or (λ b. Inconsistent b) (first_inconsistent (blocks_in input) input.erased input.parity input.parity_count)
-    (option_map_or (λ p. BadSum p) (first_bad_sum (blocks_in input) input.erased input.sums input.parity input.parity_count)
-    (Restored (placed (restored_block (blocks_in input) input.erased input.parity input.parity_count) places))))
-    (lt-ltb input.parity_count (length places) (omega arith))
-    ∙ ap Beyond (sym count)
+    correct_of-beyond (blocks_in input) input.erased input.sums input.parity input.parity_count (omega arith) ∙ ap Beyond (sym count)
 
 within : (input : LayerInput) → length (erased_places input.erased) ≤ input.parity_count
     → correct input ≡ option_map_or (λ b. Inconsistent b) (first_inconsistent (blocks_in input) input.erased input.parity input.parity_count)

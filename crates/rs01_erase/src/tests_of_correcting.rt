@@ -1,6 +1,6 @@
 //! Correcting a layer, by a table.
 
-ghost use Rattle.std.specs.Prelude.{◌≡◌, ◌+◌, ◌-◌, ◌*◌, ◌<◌, ◌≤◌, IfOk, length};
+ghost use Rattle.std.specs.Prelude.{◌≡◌, ◌*◌, ◌≤◌, length};
 
 use super::*;
 use crate::tests::random_codeword;
@@ -40,8 +40,8 @@ struct Damage {
 }
 
 // The blocks of a layer whose codeword b is this word times b % 256.
-fn write_blocks(word: &[u8], blocks: &mut [u8])
-    requires { length blocks.old ≡ 2048 * length word.now }
+fn write_blocks(word: &[u8; 255], blocks: &mut [u8])
+    requires { length blocks.old ≤ 2048 * 247 }
 {
     for (k, byte) in blocks.iter_mut().enumerate() {
         *byte = Gf(word[k / 2048]).mul(Gf((k % 256) as u8)).0;
@@ -49,11 +49,9 @@ fn write_blocks(word: &[u8], blocks: &mut [u8])
 }
 
 // The parity of such a layer.
-fn write_parity(parity_of_word: &[u8], parity: &mut [u8])
-    requires { length parity_of_word.now ≡ 8 }
-{
+fn write_parity(word: &[u8; 255], parity: &mut [u8]) {
     for (k, byte) in parity.iter_mut().enumerate() {
-        *byte = Gf(parity_of_word[k % 8]).mul(Gf((k / 8 % 256) as u8)).0;
+        *byte = Gf(word[247 + k % 8]).mul(Gf((k / 8 % 256) as u8)).0;
     }
 }
 
@@ -90,19 +88,20 @@ fn write_flags(flags: &mut [bool], erased: usize) {
     }
 }
 
-// Whether the restored places rise from 100 on, and their blocks are the original ones.
+// Whether a block is the original one of a place.
+fn is_original(place: u32, block: &[u8], original: &[u8]) -> bool {
+    let from = 2048 * place as usize;
+    block.len() == 2048 && from + 2048 <= original.len() && block == &original[from..from + 2048]
+}
+
+// Whether the restored places rise from 100 on, each with its original block.
 fn are_original(list: &PlacedList, original: &[u8]) -> bool {
-    for k in 0..list.len() {
-        let one = list.get(k);
-        if one.place as usize != 100 + k || one.block.len() != 2048 {
+    let mut next = 100u32;
+    for one in list.items() {
+        if one.place != next || !is_original(one.place, one.block.items(), original) {
             return false;
         }
-        for b in 0..2048usize {
-            let at = 2048 * (100 + k as u128) + b as u128;
-            if at >= original.len() as u128 || *one.block.get(b) != original[at as usize] {
-                return false;
-            }
-        }
+        next = next.wrapping_add(1);
     }
     true
 }
@@ -120,9 +119,9 @@ fn check_layer(
     let mut sums = vec![in alloc; 0u32; 247]?;
     let mut parity = vec![in alloc; 0u8; 2048 * 8]?;
     let mut flags = vec![in alloc; false; 247]?;
-    write_blocks(&word[..247], blocks.as_mut_slice());
+    write_blocks(&word, blocks.as_mut_slice());
     write_sums(blocks.as_slice(), sums.as_mut_slice());
-    write_parity(&word[247..], parity.as_mut_slice());
+    write_parity(&word, parity.as_mut_slice());
     let original = blocks.as_slice().to_vec(alloc)?;
     damage_blocks(blocks.as_mut_slice(), damage);
     damage_sums(sums.as_mut_slice(), damage);

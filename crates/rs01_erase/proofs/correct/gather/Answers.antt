@@ -1,4 +1,4 @@
-use Rattle.std.proofs.Common.{◌≡◌, ℕ, ◌+◌, ◌-◌, ◌*◌, take, drop, ap, ◌∙◌, arith}
+use Rattle.std.proofs.Common.{ℕ, ◌+◌, ◌-◌, ◌*◌, take, drop, ap, ◌∙◌, arith}
 use Rattle.rs01_erase.proofs.RestoringLemmas.{gathered}
 use Rattle.rs01_erase.proofs.correct.gather.Goals as goal
 

@@ -1,7 +1,6 @@
-use Rattle.std.proofs.Common.{◌≡◌, List, ℕ, refl, sym, ap, ◌∙◌, Some, None, [], get_or}
+use Rattle.std.proofs.Common.{refl, sym, ap, ◌∙◌, Some, None, [], get_or}
 use Rattle.std.specs.Prelude.{is_some, unwrap_or}
 use Rattle.std.proofs.lemmas.Bool.{false≢true}
-use Rattle.rs01_erase.specs.Restoring.{completed_at}
 use Rattle.rs01_erase.proofs.RestoringLemmas.{completed_is, none_completed}
 use Rattle.rs01_erase.proofs.correct.restore_at.Goals as goal
 

@@ -1,5 +1,4 @@
-use Rattle.std.proofs.Common.{◌≡◌, ℕ, ◌-◌, List, Bool, length, sym, ap, ◌∙◌, arith}
-use Rattle.rs01_layers.specs.Blocks.{blocks_of}
+use Rattle.std.proofs.Common.{◌≡◌, ◌-◌, length, sym, ap, ◌∙◌}
 use Rattle.rs01_layers.specs.declared.input.LayerInput.{LayerInput}
 use Rattle.rs01_layers.proofs.BlockLemmas.{length-blocks_of}
 use Rattle.rs01_erase.specs.LayerValue.{correct_of}
