@@ -1,2 +1,3 @@
+mod PushLemmas
 mod RunLemmas
 mod MaximalLemmas

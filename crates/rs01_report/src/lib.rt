@@ -9,8 +9,8 @@ pub mod reports;
 
 pub use faults::Fault;
 pub use lists::SectorList;
-pub use puts::{PutRefusal, put_create, put_fault};
-pub use reports::CreateReport;
+pub use puts::{PutRefusal, put_create, put_fault, put_verify};
+pub use reports::{CreateReport, Fullest, Mark, VerifyReport};
 
 #[cfg(test)]
 mod tests;

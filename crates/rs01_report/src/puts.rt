@@ -4,10 +4,11 @@ ghost use Rattle.std.specs.Prelude.{◌≡◌, ◌++◌, IfErr, IfOk, IsTrue, On
 ghost use Rattle.rs01_outside.specs.Taken.{Takes};
 ghost use Rattle.rs01_report.specs.Causes.{HasPutCause};
 ghost use Rattle.rs01_report.specs.Faults.{fault_line};
-ghost use Rattle.rs01_report.specs.Texts.{create_lines, image_sum_line, shape_line};
+ghost use Rattle.rs01_report.specs.Texts.{altered_line, beyond_line, checked_line, create_lines, fingerprint_line, fullest_line, image_mark_line, image_sum_line, missing_line, shape_line, surplus_line, verify_lines};
 
 use crate::faults::Fault;
-use crate::reports::CreateReport;
+use crate::lists::{SectorList, push_list};
+use crate::reports::{CreateReport, Fullest, Mark, VerifyReport};
 use rs01_outside::{Failed, Sink};
 use std::alloc::{AllocError, Global};
 use std::fmt::Write;
@@ -67,6 +68,118 @@ fn create_text(alloc: Global, report: &CreateReport, name: &str) -> Result<Strin
     push_shape(&mut text, sectors, layers, parity)?;
     write!(text, "last sector {last_bytes} bytes\n")?;
     push_image_sum(alloc, &mut text, image_sum)?;
+    Ok(text)
+}
+
+// The line of an image that was checked behind a text.
+fn push_checked(text: &mut String, name: &str) -> Result<(), AllocError>
+    ensures { OnOk result (string_bytes text.new ≡ string_bytes text.old ++ checked_line name.now) }
+{
+    write!(text, "checked {name}\n")?;
+    Ok(())
+}
+
+// The lines of the missing and of the altered sectors behind a text.
+fn push_erased(
+    text: &mut String,
+    missing: &SectorList,
+    altered: &SectorList,
+) -> Result<(), AllocError>
+    ensures { OnOk result (string_bytes text.new ≡ string_bytes text.old ++ (missing_line missing.now ++ altered_line altered.now)) }
+{
+    text.push_str("missing ")?;
+    push_list(text, missing.items())?;
+    text.push_str("\naltered ")?;
+    push_list(text, altered.items())?;
+    text.push_str("\n")?;
+    Ok(())
+}
+
+// The line of the fullest layer behind a text.
+fn push_fullest(text: &mut String, fullest: &Fullest) -> Result<(), AllocError>
+    ensures { OnOk result (string_bytes text.new ≡ string_bytes text.old ++ fullest_line fullest.now) }
+{
+    let Fullest {
+        layer,
+        erased,
+        parity,
+        ..
+    } = *fullest;
+    write!(text, "fullest layer {layer}: {erased} of {parity}\n")?;
+    Ok(())
+}
+
+// The line of the layers beyond their bound behind a text.
+fn push_beyond(text: &mut String, layers: u32) -> Result<(), AllocError>
+    ensures { OnOk result (string_bytes text.new ≡ string_bytes text.old ++ beyond_line layers) }
+{
+    write!(text, "layers beyond {layers}\n")?;
+    Ok(())
+}
+
+// The line of the surplus behind a text.
+fn push_surplus(text: &mut String, bytes: u64) -> Result<(), AllocError>
+    ensures { OnOk result (string_bytes text.new ≡ string_bytes text.old ++ surplus_line bytes) }
+{
+    write!(text, "surplus bytes {bytes}\n")?;
+    Ok(())
+}
+
+// The line of the fingerprint behind a text.
+fn push_fingerprint(text: &mut String, mark: Mark) -> Result<(), AllocError>
+    ensures { OnOk result (string_bytes text.new ≡ string_bytes text.old ++ fingerprint_line mark) }
+{
+    match mark {
+        Mark::Matches => text.push_str("fingerprint matches\n")?,
+        Mark::Differs => text.push_str("fingerprint differs\n")?,
+        Mark::Absent => text.push_str("fingerprint absent\n")?,
+    }
+    Ok(())
+}
+
+// The line of the image's digest behind a text.
+fn push_image_mark(text: &mut String, mark: Mark) -> Result<(), AllocError>
+    ensures { OnOk result (string_bytes text.new ≡ string_bytes text.old ++ image_mark_line mark) }
+{
+    match mark {
+        Mark::Matches => text.push_str("image md5 matches\n")?,
+        Mark::Differs => text.push_str("image md5 differs\n")?,
+        Mark::Absent => text.push_str("image md5 short\n")?,
+    }
+    Ok(())
+}
+
+// The first four lines of a report of `verify` behind a text.
+fn push_findings(text: &mut String, report: &VerifyReport, name: &str) -> Result<(), AllocError>
+    ensures { OnOk result (string_bytes text.new ≡ string_bytes text.old
+        ++ (checked_line name.now ++ (shape_line report.now.sectors report.now.layers report.now.parity ++ (missing_line report.now.missing ++ altered_line report.now.altered)))) }
+{
+    push_checked(text, name)?;
+    push_shape(text, report.sectors, report.layers, report.parity)?;
+    push_erased(text, &report.missing, &report.altered)?;
+    Ok(())
+}
+
+// The other five lines behind a text.
+fn push_measures(text: &mut String, report: &VerifyReport) -> Result<(), AllocError>
+    ensures { OnOk result (string_bytes text.new ≡ string_bytes text.old
+        ++ (fullest_line report.now.fullest ++ (beyond_line report.now.fullest.beyond ++ (surplus_line report.now.surplus ++ (fingerprint_line report.now.fingerprint ++ image_mark_line report.now.image))))) }
+{
+    push_fullest(text, &report.fullest)?;
+    push_beyond(text, report.fullest.beyond)?;
+    push_surplus(text, report.surplus)?;
+    push_fingerprint(text, report.fingerprint)?;
+    push_image_mark(text, report.image)?;
+    Ok(())
+}
+
+// The lines of a report of `verify`.
+fn verify_text(alloc: Global, report: &VerifyReport, name: &str) -> Result<String, AllocError>
+    ensures { IfOk result (λ text. string_bytes text ≡ verify_lines report.now name.now) }
+{
+    let mut text = String::new(alloc);
+    push_findings(&mut text, report, name)?;
+    push_measures(&mut text, report)?;
     Ok(text)
 }
 
@@ -154,6 +267,27 @@ pub fn put_create<S: Sink>(
     ensures cause { HasPutCause (S.faults out.old) (S.faults out.new) result }
 {
     let text = create_text(alloc, report, name)?;
+    put_text(text.as_str(), out)?;
+    Ok(())
+}
+
+/// Puts the report of `verify`, of the image under `name`.
+///
+/// After `SinkFault` a prefix of it was put.
+pub fn put_verify<S: Sink>(
+    alloc: Global,
+    report: &VerifyReport,
+    name: &str,
+    out: &mut S,
+) -> Result<(), PutRefusal>
+    ensures tells { S.tells out.new ≡ S.tells out.old }
+    ensures taken { IsTrue (S.tells out.old)
+        → Takes (S.taken out.old) (S.taken out.new) (verify_lines report.now name.now) result }
+    ensures nothing { IsTrue (S.tells out.old)
+        → result ≡ Err PutRefusal.OutOfMemory → S.taken out.new ≡ S.taken out.old }
+    ensures cause { HasPutCause (S.faults out.old) (S.faults out.new) result }
+{
+    let text = verify_text(alloc, report, name)?;
     put_text(text.as_str(), out)?;
     Ok(())
 }

@@ -64,6 +64,56 @@ fn created(rt: HostRuntime) {
     assert_eq!(rt; out.bytes.as_slice(), want.as_slice());
 }
 
+// A report of 224 sectors of which one is altered.
+fn altered_report(alloc: Global, fingerprint: Mark, image: Mark) -> Result<VerifyReport, Fail> {
+    Ok(VerifyReport {
+        sectors: 224,
+        layers: 2,
+        parity: 32,
+        missing: SectorList::of(Vec::new(alloc)),
+        altered: SectorList::of([5u32].to_vec(alloc)?),
+        fullest: Fullest {
+            layer: 1,
+            erased: 1,
+            parity: 32,
+            beyond: 0,
+        },
+        surplus: 0,
+        fingerprint,
+        image,
+    })
+}
+
+#[test]
+fn verified(rt: HostRuntime) -> Result<(), Fail> {
+    for (fingerprint, image, ends) in [
+        (
+            Mark::Matches,
+            Mark::Differs,
+            "fingerprint matches\nimage md5 differs\n",
+        ),
+        (
+            Mark::Differs,
+            Mark::Absent,
+            "fingerprint differs\nimage md5 short\n",
+        ),
+        (
+            Mark::Absent,
+            Mark::Matches,
+            "fingerprint absent\nimage md5 matches\n",
+        ),
+    ] {
+        let report = altered_report(rt.alloc(), fingerprint, image)?;
+        let mut out = empty_page(rt.alloc(), false);
+        assert!(rt; put_verify(rt.alloc(), &report, "disc.iso", &mut out).is_ok());
+        let want = format!(in rt.alloc();
+            "checked disc.iso\nsectors 224, layers 2, parity 32\nmissing 0: none\naltered 1: 5\nfullest layer 1: 1 of 32\nlayers beyond 0\nsurplus bytes 0\n{ends}"
+        )?;
+        assert_eq!(rt; out.bytes.as_slice(), want.as_bytes());
+    }
+    Ok(())
+}
+
 #[test]
 fn closed_sink(rt: HostRuntime) {
     let mut out = empty_page(rt.alloc(), true);
