@@ -2,3 +2,4 @@ pub mod Sectors
 pub mod Layout
 pub mod Layer
 pub mod Placing
+pub mod Blocks

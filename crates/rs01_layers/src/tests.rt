@@ -104,3 +104,44 @@ fn bytes_of_a_short_image(rt: HostRuntime) -> Result<(), Fail> {
     assert_eq!(rt; column_start(&rt, image.as_slice(), &two, 1), (7, 0, 0, 0));
     Ok(())
 }
+
+// A value that threads may share and hand over.
+fn crosses_threads<T: Send + Sync>(_value: &T) {}
+
+#[test]
+fn lists(rt: HostRuntime) -> Result<(), Fail> {
+    let bytes = Bytes::of([7u8, 9].to_vec(rt.alloc())?);
+    assert_eq!(rt; (bytes.len(), bytes.items()[0], *bytes.get(1)), (2, 7, 9));
+    let flags = Flags::of([true, false].to_vec(rt.alloc())?);
+    assert_eq!(rt;
+        (flags.len(), flags.items()[0], *flags.get(1)),
+        (2, true, false)
+    );
+    let sums = SumList::of([7u32, 9].to_vec(rt.alloc())?);
+    assert_eq!(rt; (sums.len(), sums.items()[0], *sums.get(1)), (2, 7, 9));
+    let mut blocks = Vec::new(rt.alloc());
+    blocks.push(Placed {
+        place: 3,
+        block: bytes,
+    })?;
+    let placed = PlacedList::of(blocks);
+    assert_eq!(rt; (placed.len(), placed.items()[0].place), (1, 3));
+    assert_eq!(rt; placed.get(0).block.len(), 2);
+    crosses_threads(&LayerOut::Restored(placed));
+    Ok(())
+}
+
+#[test]
+fn input_without_parity(rt: HostRuntime) -> Result<(), Fail> {
+    let input = LayerInput {
+        layer: 5,
+        parity_count: 100,
+        data_: Bytes::of(vec![in rt.alloc(); 0u8; 2048 * 155]?),
+        erased: Flags::of(vec![in rt.alloc(); false; 155]?),
+        sums: SumList::of(vec![in rt.alloc(); 0u32; 155]?),
+        parity: Bytes::of(Vec::new(rt.alloc())),
+    };
+    crosses_threads(&input);
+    assert_eq!(rt; (input.data_.len(), input.parity.len()), (317_440, 0));
+    Ok(())
+}
