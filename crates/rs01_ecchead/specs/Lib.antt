@@ -3,3 +3,4 @@ pub mod Head
 pub mod EccFile
 pub mod Recorded
 pub mod Opened
+pub mod Erased

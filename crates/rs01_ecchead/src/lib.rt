@@ -14,6 +14,6 @@ mod sectors;
 pub use head::{Head, HeadRefusal};
 pub use head_read::read_head;
 pub use head_write::write_head;
-pub use opened::{Ecc, EccRefusal};
+pub use opened::{Ecc, EccRefusal, Which};
 pub use opening::open_ecc;
 pub use sectors::sector_in;

@@ -6,6 +6,15 @@ use rs01_layers::{Extent, Shape};
 use rs01_sums::Sums;
 use thiserror::Error;
 
+/// One of the two files that belong together.
+#[derive(Clone, Copy, PartialEq, Eq, Debug)]
+pub enum Which {
+    /// The error correction file.
+    Ecc,
+    /// The image that it protects.
+    Image,
+}
+
 /// Why a file isn't opened. The first four are told in the order of the reading: the name, a file that is shorter than
 /// a header, the header, another length than the header asks for, and another digest than the recorded one.
 #[derive(Clone, Copy, PartialEq, Eq, Debug, Error)]

@@ -1,0 +1,62 @@
+-- Which sectors of an image file are erased, judged by what is known of the protected image. The image file is the
+-- list y, and s is the number of a sector.
+use Rattle.std.specs.Prelude.{ℕ, ◌+◌, ◌-◌, ◌*◌, ◌==◌, ◌&&◌, ◌||◌, Bool, not, nat_lt, List, length, filter, count_by, Option, Some}
+use Rattle.std.specs.List.{range_with_len}
+use Rattle.std.specs.Str.{bytes_eq}
+use Rattle.rs01_layers.specs.Sectors.{block, length_of}
+use Rattle.rs01_layers.specs.Layout.{layer_of}
+use Rattle.rs01_sums.specs.Marker.{marker}
+use Rattle.rs01_sums.specs.Usable.{is_usable}
+use Rattle.rs01_ecchead.specs.Header.{Fields}
+use Rattle.rs01_ecchead.specs.Recorded.{sums_in}
+use Rattle.rs01_ecchead.specs.declared.opened.Ecc.{Ecc}
+
+-- what is known of an image: its number of sectors, the bytes of the last one and, where they are recorded, the
+-- checksums of all
+pub record Known : Type 0 where
+  pub sectors : ℕ
+  pub last_bytes : ℕ
+  pub sums : Option (List ℕ)
+
+-- what an error correction file tells whose header has these fields
+abbrev pub known_by : Fields → List ℕ → Known
+known_by fields file = record { sectors = fields.sectors; last_bytes = fields.last_bytes; sums = Some (sums_in file fields.sectors) }
+
+-- what an opened error correction file tells
+abbrev pub known_of : Ecc → Known
+known_of ecc = record { sectors = ecc.head.sectors; last_bytes = ecc.head.last_bytes; sums = Some ecc.sums.list }
+
+-- how many bytes the image has
+abbrev pub image_len : Known → ℕ
+image_len known = 2048 * (known.sectors - 1) + known.last_bytes
+
+-- a sector is absent where the file ends before it does
+abbrev pub is_absent : Known → List ℕ → ℕ → Bool
+is_absent known y s = nat_lt (length y) (2048 * s + length_of known.sectors known.last_bytes s)
+
+-- what the file has for a sector that isn't absent: its bytes, and zeros up to 2048
+abbrev pub block_in : Known → List ℕ → ℕ → List ℕ
+block_in known y s = block y s (length_of known.sectors known.last_bytes s)
+
+-- a sector is erased where it is absent or its block isn't usable
+unfoldable pub is_erased : Known → List ℕ → ℕ → Bool
+is_erased known y s = is_absent known y s || not (is_usable known.sums s (block_in known y s))
+
+-- an erased sector is missing where it is absent or its block is its marker
+unfoldable pub is_missing : Known → List ℕ → ℕ → Bool
+is_missing known y s = is_absent known y s || bytes_eq (block_in known y s) (marker s)
+
+-- and it is altered else
+unfoldable pub is_altered : Known → List ℕ → ℕ → Bool
+is_altered known y s = is_erased known y s && not (is_missing known y s)
+
+-- the missing and the altered sectors, in rising order
+unfoldable pub missing_sectors : Known → List ℕ → List ℕ
+missing_sectors known y = filter (is_missing known y) (range_with_len 0 known.sectors)
+
+unfoldable pub altered_sectors : Known → List ℕ → List ℕ
+altered_sectors known y = filter (is_altered known y) (range_with_len 0 known.sectors)
+
+-- how many sectors of layer l are erased, where codewords have r parity bytes
+unfoldable pub erased_in : Known → List ℕ → ℕ → ℕ → ℕ
+erased_in known y r l = count_by (λ s. is_erased known y s && (layer_of known.sectors r s == l)) (range_with_len 0 known.sectors)
