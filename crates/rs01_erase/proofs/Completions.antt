@@ -158,17 +158,18 @@ pub none-agrees : (w places : List ℕ) (r : ℕ) (c : List ℕ) → length w �
 none-agrees w places r c long below e code agree = some_completion w places r c long below code agree e
 
 -- the bytes at the erased places play no part
-pub completion-same : (w x places : List ℕ) (r : ℕ) → length w ≡ 255 → length x ≡ 255 → ((k : ℕ) → k < length places → get_or places k 0 < 255)
+pub completion-same : (w x places : List ℕ) (r : ℕ) → length w ≡ length x → ((k : ℕ) → k < length places → get_or places k 0 < length w)
     → AgreeOutside w x places → completion w places r ≡ completion x places r
 unfolding completion
-completion-same w x [] r lw lx below agree =
-    let same : w ≡ x = same_number_lists w x (lw ∙ sym lx) (λ k h. agree k (λ inside. absurd (omega (arith, inside.1)))) in
+completion-same w x [] r long below agree =
+    let same : w ≡ x = same_number_lists w x long (λ k h. agree k (λ inside. absurd (omega (arith, inside.1)))) in
     ap (λ l. completion l [] r) same
-completion-same w x (p ∷ places) r lw lx below agree =
-    let hp : p < 255 = below 0 (omega arith) in
+completion-same w x (p ∷ places) r long below agree =
+    let hp : p < length w = below 0 (omega arith) in
     let each : (v : ℕ) → completion (set w p v) places r ≡ completion (set x p v) places r = λ v.
-    completion-same (set w p v) (set x p v) places r (length-set w p v ∙ lw) (length-set x p v ∙ lx) (λ k h. below (suc k) (omega arith))
-    (later_outside (set w p v) x places p v (omega arith) (sym (get_or-set_same w p v 0 (omega arith))) (set_outside v)) in
+    completion-same (set w p v) (set x p v) places r (length-set w p v ∙ long ∙ sym (length-set x p v))
+    (λ k h. (let next : get_or places k 0 < length w = below (suc k) (omega arith) in omega (arith, length-set w p v)))
+    (later_outside (set w p v) x places p v (omega arith) (sym (get_or-set_same w p v 0 hp)) (set_outside v)) in
     (λ i. first_found (λ v. each v i) byte_values)
   where
     set_outside : (v : ℕ) → AgreeOutside (set w p v) x (p ∷ places)

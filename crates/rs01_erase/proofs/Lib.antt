@@ -1,3 +1,6 @@
 pub mod Elimination
 pub mod Places
 pub mod Completions
+pub mod Found
+pub mod ErasedPlaces
+pub mod LayerValueLemmas

@@ -1,2 +1,4 @@
 pub mod Completion
 pub mod PowerSums
+pub mod LayerValue
+pub mod Correcting
