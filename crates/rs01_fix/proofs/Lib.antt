@@ -1,0 +1,4 @@
+mod ErasedLemmas
+mod Numbered
+mod HeldLemmas
+mod InputLemmas

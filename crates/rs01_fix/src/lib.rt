@@ -1,0 +1,9 @@
+//! Repairing an image by its error correction file.
+#![tactic(auto)]
+
+mod erased;
+mod held;
+mod input;
+mod refusal;
+
+pub use refusal::FixRefusal;
