@@ -18,7 +18,7 @@ use Rattle.rs01_erase.proofs.Found.{map_same}
 use Rattle.rs01_erase.proofs.ErasedPlaces.{number_in_range}
 use Rattle.rs01_fix.proofs.Numbered.{length-pieces, get_or-pieces}
 
-size_fits : (n last s : ℕ) → last ≤ 2048 → length_of n last s ≤ 2048
+pub size_fits : (n last s : ℕ) → last ≤ 2048 → length_of n last s ≤ 2048
 size_fits n last s h =
     ⊎_elim
     (λ e. let d = cond-true (eqb (s + 1) n) last 2048 (eq-eqb (s + 1) n e) in omega (arith, d))

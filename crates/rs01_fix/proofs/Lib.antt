@@ -2,3 +2,9 @@ mod ErasedLemmas
 mod Numbered
 mod HeldLemmas
 mod InputLemmas
+mod PlacedLemmas
+mod PutLemmas
+mod ProgressLemmas
+mod OrderLemmas
+mod FixedLemmas
+mod StandLemmas

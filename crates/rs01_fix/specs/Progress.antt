@@ -1,11 +1,12 @@
 -- How far the repair of an image file has come. The layers are taken in rising order, and in each its places.
-use Rattle.std.specs.Prelude.{ℕ, ◌+◌, ◌*◌, ◌≡◌, ◌<◌, ◌≤◌, ◌⊎◌, Bool, IsTrue, List, length, max, slice_index, slice_index_or, false}
+use Rattle.std.specs.Prelude.{ℕ, ◌+◌, ◌*◌, ◌≡◌, ◌<◌, ◌≤◌, ◌⊎◌, Bool, IsTrue, IsSomeAnd, List, Option, length, max, slice_index, slice_index_or, false}
 use Rattle.rs01_layers.specs.Sectors.{length_of}
 use Rattle.rs01_layers.specs.Layout.{layer_of, layers_of, place_of}
 use Rattle.rs01_layers.specs.declared.task.LayerOut.{LayerOut}
 use Rattle.rs01_ecchead.specs.Erased.{Known, image_len}
 use Rattle.rs01_fix.specs.Inputs.{flags_at}
-use Rattle.rs01_fix.specs.Repair.{after_by, is_restored, restored_at}
+use Rattle.rs01_fix.specs.Between.{IsBetween}
+use Rattle.rs01_fix.specs.Repair.{after_by, fixed_by, is_restored, restored_at}
 
 -- a file in which some sectors of an image of `len` bytes in `count` sectors are as they are to be afterwards, and the
 -- others are as they were. size s is the number of bytes of sector s.
@@ -29,6 +30,14 @@ abbrev pub Stands : Known → List ℕ → ℕ → (ℕ → LayerOut) → ℕ �
 Stands known y r answers l p file =
     Holds known.sectors (image_len known) (length_of known.sectors known.last_bytes) y (after_by known y r answers)
     (IsDone known.sectors r l p) (IsAhead known.sectors r l p) file
+
+-- the same of a file that may not be there
+abbrev pub StandsUnder : Known → List ℕ → ℕ → (ℕ → LayerOut) → ℕ → ℕ → Option (List ℕ) → Type 0
+StandsUnder known y r answers l p file = IsSomeAnd file (Stands known y r answers l p)
+
+-- a file that stands after a fault: on the way from the old one to the fixed one
+abbrev pub IsOnTheWay : Known → List ℕ → ℕ → (ℕ → LayerOut) → Bool → Option (List ℕ) → Type 0
+IsOnTheWay known y r answers cut file = IsSomeAnd file (IsBetween y (fixed_by known y r answers cut))
 
 -- an answer has a block of 2048 bytes for each erased place, where the layer is restored
 abbrev pub HasBlocks : List Bool → LayerOut → Type 0

@@ -4,6 +4,7 @@
 mod erased;
 mod held;
 mod input;
+mod places;
 mod refusal;
 
 pub use refusal::FixRefusal;
