@@ -1,6 +1,6 @@
 -- The erased places of a layer: they rise, they are places, and they are those whose flag is set.
-use Rattle.std.proofs.Common.{◌≡◌, ℕ, ◌+◌, ◌<◌, ◌≤◌, List, length, get_or, sym, ap, ◌∙◌, arith, Bool, true, false, ⊎_elim}
-use Rattle.std.specs.List.{filter, range_with_len, All, Contains}
+use Rattle.std.proofs.Common.{◌≡◌, ℕ, ◌+◌, ◌<◌, List, length, get_or, sym, ◌∙◌, arith, Bool, true, false, ⊎_elim}
+use Rattle.std.specs.List.{range_with_len, All, Contains}
 use Rattle.std.specs.List.Sorted.{IsStrictlyIncreasing}
 use Rattle.std.proofs.lemmas.Bool.{cases_lt, false≢true, false_from_ne_true}
 use Rattle.std.proofs.lemmas.List.{get_or_past, get_or_default}

@@ -1,12 +1,12 @@
 -- What correcting gives of a layer: it says nothing of lost blocks, its restored blocks are blocks, and it is the original
 -- of an intact layer.
-use Rattle.std.proofs.Common.{◌≡◌, ℕ, ◌+◌, ◌-◌, ◌*◌, ◌^◌, ◌<◌, ◌≤◌, List, [], ◌++◌, length, get_or, take, drop, map, refl, sym, ap, ◌∙◌, subst, arith, Bool, true, false, cond, ltb, eqb, eq-eqb, Option, Some, None, ⊎_elim, length-append}
+use Rattle.std.proofs.Common.{◌≡◌, ℕ, ◌-◌, ◌*◌, ◌^◌, ◌<◌, ◌≤◌, List, [], ◌∷◌, ◌++◌, length, get_or, take, drop, map, refl, sym, ap, ◌∙◌, subst, arith, Bool, true, false, cond, ltb, eqb, eq-eqb, Option, Some, None, ⊎_elim, length-append}
 use Rattle.std.specs.Prelude.{not, is_none, unwrap_or}
-use Rattle.std.specs.List.{find, range_with_len, All, Contains}
+use Rattle.std.specs.List.{find, range_with_len, All}
 use Rattle.std.specs.Option.{option_map_or}
-use Rattle.std.proofs.lemmas.Bool.{cases_lt, cond-false, le-ltb, not_from_true}
-use Rattle.std.proofs.lemmas.List.{get_or_append_left, get_or-append_right, get_or_past, length-map}
-use Rattle.std.proofs.lemmas.List.Elements.{All-get_or, All-from_get_or}
+use Rattle.std.proofs.lemmas.Bool.{cases_lt, cond-false, le-ltb, ltb-false, not_from_true, eqb-true, not-false, false≢true}
+use Rattle.std.proofs.lemmas.List.{get_or_append_left, get_or-append_right, get_or_past}
+use Rattle.std.proofs.lemmas.List.Elements.{All-get_or, All-from_get_or, All-map, All-same}
 use Rattle.std.proofs.lemmas.List.FromFn.{length-range_with_len, length-map-range_with_len, get_or-map-range_with_len, fill_by_all}
 use Rattle.rs01_poly.specs.Code.{IsCodeword, AgreeOutside, encode}
 use Rattle.rs01_poly.proofs.Values.{AllBytes}
@@ -14,7 +14,7 @@ use Rattle.rs01_poly.proofs.Difference.{encoding_is_codeword}
 use Rattle.rs01_layers.specs.Layer.{column}
 use Rattle.rs01_layers.specs.declared.lists.Placed.{Placed}
 use Rattle.rs01_layers.specs.declared.task.LayerOut.{LayerOut}
-use Rattle.rs01_layers.specs.declared.task.LayerOut.TheVariants.{Parity, Restored, Beyond, Inconsistent, BadSum}
+use Rattle.rs01_layers.specs.declared.task.LayerOut.TheVariants.{Restored, Beyond, Inconsistent, BadSum}
 use Rattle.rs01_layers.proofs.BlockLemmas.{length-column, get_or-column}
 use Rattle.rs01_sums.specs.Crc.{crc}
 use Rattle.rs01_erase.specs.Completion.{completion}
@@ -22,7 +22,7 @@ use Rattle.rs01_erase.specs.LayerValue.{codewords, erased_places, word_of, compl
 use Rattle.rs01_erase.specs.Correcting.{AgreeWhereHeld, AgreeWhereErased, IsBlock, IsIntact}
 use Rattle.rs01_erase.proofs.Elimination.{bytes_of_all}
 use Rattle.rs01_erase.proofs.Completions.{completion-same, completion-completes, completion-is, Completes}
-use Rattle.rs01_erase.proofs.Found.{find_first, find_none, none_passes, find_same, map_same}
+use Rattle.rs01_erase.proofs.Found.{find_none, none_passes, find_same, map_same}
 use Rattle.rs01_erase.proofs.ErasedPlaces.{number_in_range, erased_rise, erased_below_at, erased_flagged, held_unflagged}
 
 pub codewords-is : codewords ≡ 2048
@@ -111,13 +111,14 @@ pub restored_block-is_block : (blocks : List (List ℕ)) (flags : List Bool) (pa
 unfolding restored_block completed
 restored_block-is_block blocks flags parity r p =
     let f : ℕ → ℕ = λ b. get_or (unwrap_or (completed blocks flags parity r b) []) p 0 in
-    let long : length (map f (range_with_len 0 codewords)) ≡ codewords = length-map-range_with_len f 0 codewords in
-    (long ∙ codewords-is,
-    All-from_get_or (λ b. b < 2 ^ 8) (map f (range_with_len 0 codewords)) 0
-    (λ k h.
-    let here : get_or (map f (range_with_len 0 codewords)) k 0 ≡ f k = get_or-map-range_with_len f 0 codewords k k 0 (omega arith) (omega arith) in
-    let low : f k < 2 ^ 8 = restored_byte (completed blocks flags parity r k) (word_of blocks parity r k) (erased_places flags) r p refl in
-    omega arith))
+    let long : length (map f (range_with_len 0 codewords)) ≡ codewords = length-map-range_with_len f 0 codewords in (
+      long ∙ codewords-is,
+      All-from_get_or (λ b. b < 2 ^ 8) (map f (range_with_len 0 codewords)) 0
+          (λ k h.
+          let here : get_or (map f (range_with_len 0 codewords)) k 0 ≡ f k = get_or-map-range_with_len f 0 codewords k k 0 (omega arith) (omega arith) in
+          let low : f k < 2 ^ 8 = restored_byte (completed blocks flags parity r k) (word_of blocks parity r k) (erased_places flags) r p refl in
+          omega arith),
+    )
 
 -- ---- a layer that is intact but for its erased places
 
@@ -235,3 +236,88 @@ intact_layer_is_restored original blocks flags sums parity r intact most few =
     let inside : p < 255 - r = omega (arith, erased_below_at flags k h, intact.flag_count) in
     let same : restored_block blocks flags parity r p ≡ get_or original p [] = restored_block-intact original blocks flags sums parity r p intact most few inside in
     (λ i. record { place = p; block = same i })))
+
+-- ---- what the answer Restored says
+
+only_restored : (b : Bool) (n : ℕ) (o q : Option ℕ) (all list : List Placed)
+    → cond b (Beyond n) (option_map_or (λ c. Inconsistent c) o (option_map_or (λ p. BadSum p) q (Restored all))) ≡ Restored list
+    → (b ≡ false) × (o ≡ None) × (q ≡ None) × (list ≡ all)
+only_restored true n o q all list e = absurd (let never : ⊥ = cc in never)
+only_restored false n (Some c) q all list e = absurd (let never : ⊥ = cc in never)
+only_restored false n None (Some p) all list e = absurd (let never : ⊥ = cc in never)
+only_restored false n None None all list e = (refl, refl, refl, (let same : list ≡ all = cc in same))
+
+-- restored are exactly the erased places, each with its restored block; they are not too many, each codeword was
+-- completed, and each restored block has its checksum
+pub record IsRestored (blocks : List (List ℕ)) (flags : List Bool) (sums parity : List ℕ) (r : ℕ) (list : List Placed) : Type 0 where
+  pub few : length (erased_places flags) ≤ r
+  pub consistent : first_inconsistent blocks flags parity r ≡ None
+  pub sums_match : first_bad_sum blocks flags sums parity r ≡ None
+  pub list_is : list ≡ placed (restored_block blocks flags parity r) (erased_places flags)
+
+pub correct_of-restored : (blocks : List (List ℕ)) (flags : List Bool) (sums parity : List ℕ) (r : ℕ) (list : List Placed)
+    → correct_of blocks flags sums parity r ≡ Restored list → IsRestored blocks flags sums parity r list
+unfolding correct_of
+correct_of-restored blocks flags sums parity r list e =
+    let places : List ℕ = erased_places flags in
+    let parts = only_restored (ltb r (length places)) (length places) (first_inconsistent blocks flags parity r) (first_bad_sum blocks flags sums parity r)
+    (placed (restored_block blocks flags parity r) places) list e in
+    record { few = ltb-false r (length places) parts.0; consistent = parts.1; sums_match = parts.2; list_is = parts.3 }
+
+same_places : (block : ℕ → List ℕ) (places : List ℕ) → map (λ (one : Placed). one.place) (placed block places) ≡ places
+same_places block [] = refl
+same_places block (p ∷ places) = (λ i. p ∷ same_places block places i)
+
+pub IsRestored-places : (blocks : List (List ℕ)) (flags : List Bool) (sums parity : List ℕ) (r : ℕ) (list : List Placed)
+    → IsRestored blocks flags sums parity r list → map (λ (one : Placed). one.place) list ≡ erased_places flags
+IsRestored-places blocks flags sums parity r list h =
+    ap (map (λ (one : Placed). one.place)) h.list_is ∙ same_places (restored_block blocks flags parity r) (erased_places flags)
+
+pub IsRestored-blocks : (blocks : List (List ℕ)) (flags : List Bool) (sums parity : List ℕ) (r : ℕ) (list : List Placed)
+    → IsRestored blocks flags sums parity r list → All (λ (one : Placed). IsBlock one.block) list
+IsRestored-blocks blocks flags sums parity r list h =
+    let IsOne : Placed → Type 0 = λ one. IsBlock one.block in
+    All-same IsOne list (placed (restored_block blocks flags parity r) (erased_places flags)) h.list_is
+    (All-map IsOne (λ p. record { place = p; block = restored_block blocks flags parity r p }) (erased_places flags)
+    (All-from_get_or (λ p. IsBlock (restored_block blocks flags parity r p)) (erased_places flags) 0
+    (λ k l. restored_block-is_block blocks flags parity r (get_or (erased_places flags) k 0))))
+
+pub IsRestored-sums : (blocks : List (List ℕ)) (flags : List Bool) (sums parity : List ℕ) (r : ℕ) (list : List Placed)
+    → IsRestored blocks flags sums parity r list → All (λ (one : Placed). crc one.block ≡ get_or sums one.place 0) list
+unfolding first_bad_sum
+IsRestored-sums blocks flags sums parity r list h =
+    let HasSum : Placed → Type 0 = λ one. crc one.block ≡ get_or sums one.place 0 in
+    All-same HasSum list (placed (restored_block blocks flags parity r) (erased_places flags)) h.list_is
+    (All-map HasSum (λ p. record { place = p; block = restored_block blocks flags parity r p }) (erased_places flags)
+    (All-from_get_or (λ p. crc (restored_block blocks flags parity r p) ≡ get_or sums p 0) (erased_places flags) 0
+    (λ k l.
+    let p : ℕ = get_or (erased_places flags) k 0 in
+    eqb-true (crc (restored_block blocks flags parity r p)) (get_or sums p 0)
+    (not-false (eqb (crc (restored_block blocks flags parity r p)) (get_or sums p 0))
+    (none_passes (λ q. not (eqb (crc (restored_block blocks flags parity r q)) (get_or sums q 0))) (erased_places flags) k h.sums_match l)))))
+
+-- a restored byte is that of a codeword that has the held bytes at the other places
+pub restored_codeword : (blocks : List (List ℕ)) (flags : List Bool) (parity : List ℕ) (r b : ℕ) → first_inconsistent blocks flags parity r ≡ None → b < 2048
+    → (c : List ℕ) × IsCodeword c r × AgreeOutside c (word_of blocks parity r b) (erased_places flags)
+    × ((p : ℕ) → get_or (restored_block blocks flags parity r p) b 0 ≡ get_or c p 0)
+unfolding first_inconsistent restored_block completed
+restored_codeword blocks flags parity r b none below = which (completed blocks flags parity r b) refl
+  where
+    inside : b < codewords
+    inside = omega (arith, codewords-is)
+
+    some_here : is_none (completed blocks flags parity r b) ≡ false
+    some_here =
+        sym (ap (λ j. is_none (completed blocks flags parity r j)) (number_in_range codewords b inside))
+        ∙ none_passes (λ j. is_none (completed blocks flags parity r j)) (range_with_len 0 codewords) b none (omega (arith, inside, length-range_with_len 0 codewords))
+
+    byte_at : (p : ℕ) → get_or (restored_block blocks flags parity r p) b 0 ≡ get_or (unwrap_or (completed blocks flags parity r b) []) p 0
+    byte_at p = get_or-map-range_with_len (λ j. get_or (unwrap_or (completed blocks flags parity r j) []) p 0) 0 codewords b b 0 inside (omega arith)
+
+    which : (o : Option (List ℕ)) → completed blocks flags parity r b ≡ o
+        → (c : List ℕ) × IsCodeword c r × AgreeOutside c (word_of blocks parity r b) (erased_places flags)
+        × ((p : ℕ) → get_or (restored_block blocks flags parity r p) b 0 ≡ get_or c p 0)
+    which None e = absurd (false≢true (sym some_here ∙ ap (λ o. is_none o) e))
+    which (Some c) e =
+        let done : Completes c (word_of blocks parity r b) (erased_places flags) r = completion-completes (word_of blocks parity r b) (erased_places flags) r c e in
+        (c, done.code, done.agree, λ p. byte_at p ∙ ap (λ o. get_or (unwrap_or o []) p 0) e)

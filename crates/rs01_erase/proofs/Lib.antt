@@ -4,3 +4,4 @@ pub mod Completions
 pub mod Found
 pub mod ErasedPlaces
 pub mod LayerValueLemmas
+pub mod RestoringLemmas

@@ -2,3 +2,4 @@ pub mod Completion
 pub mod PowerSums
 pub mod LayerValue
 pub mod Correcting
+pub mod Restoring

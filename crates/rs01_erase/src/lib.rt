@@ -1,14 +1,19 @@
-//! Restoring the erased bytes of codewords.
+//! Restoring the erased bytes of codewords, and the erased blocks of layers.
 //!
 //! A codeword has 255 bytes, `r` of them parity. Where it is known which bytes are lost, up to `r`
-//! of them are found again from the others. No call takes memory.
+//! of them are found again from the others. Only `CorrectTask` takes memory.
 #![tactic(auto)]
 
+mod correct;
 pub mod laws;
+pub mod laws_of_correcting;
 mod power_sums;
 mod restore;
 
+pub use correct::CorrectTask;
 pub use restore::{EraseRefusal, restore_codeword};
 
 #[cfg(test)]
 mod tests;
+#[cfg(test)]
+mod tests_of_correcting;

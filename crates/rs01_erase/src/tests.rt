@@ -30,7 +30,7 @@ fn next_byte(state: &mut u64) -> u8 {
 }
 
 // A multiple of the generator polynomial by random coefficients.
-fn random_codeword(r: u32, state: &mut u64) -> [u8; 255]
+pub fn random_codeword(r: u32, state: &mut u64) -> [u8; 255]
     requires least { 8 ≤ r }
     requires most { r ≤ 100 }
 {

@@ -7,6 +7,7 @@ use Rattle.std.specs.List.{range_with_len}
 use Rattle.rs01_layers.specs.Sectors.{sectors_of, last_of, length_of, padded, block, sector}
 use Rattle.rs01_layers.specs.Layout.{number_at}
 use Rattle.rs01_layers.specs.Layer.{block_at, layer, column}
+use Rattle.rs01_layers.specs.Blocks.{blocks_of}
 
 pub length-padded : (width : ℕ) (bytes : List ℕ) → length bytes ≤ width → length (padded width bytes) ≡ width
 unfolding padded
@@ -136,3 +137,24 @@ column-bytes image r l b k below h bytes =
     let at : ℕ = 2048 * number_at (sectors_of (length image)) r l k + b in
     let e : get_or (column (layer image r l) b) k 0 ≡ get_or image at 0 = get_or-column-layer image r l b k below h in
     omega (arith, bytes at, e)
+
+pub length-blocks_of : (k : ℕ) (bytes : List ℕ) → length (blocks_of k bytes) ≡ k
+unfolding blocks_of
+length-blocks_of k bytes = length-map (range_with_len 0 k) (λ p. take 2048 (drop (2048 * p) bytes)) ∙ length-range_with_len 0 k
+
+-- a byte of a block that is held among others
+get_or-blocks_of : (k : ℕ) (bytes : List ℕ) (place b : ℕ) → place < k → b < 2048
+    → get_or (get_or (blocks_of k bytes) place []) b 0 ≡ get_or bytes (2048 * place + b) 0
+unfolding blocks_of
+get_or-blocks_of k bytes place b h below =
+    let f : ℕ → List ℕ = λ p. take 2048 (drop (2048 * p) bytes) in
+    let here : get_or (range_with_len 0 k) place 0 ≡ place = get_or-range_with_len 0 k place 0 h ∙ (let e : 0 + place ≡ place = omega arith in e) in
+    ap (λ block. get_or block b 0)
+    (get_or-map f (range_with_len 0 k) place 0 [] (let n = length-range_with_len 0 k in omega (arith, n)) ∙ ap f here)
+    ∙ get_or-take 2048 (drop (2048 * place) bytes) b 0 below ∙ get_or-drop (2048 * place) bytes b 0
+
+-- the data of a codeword of blocks that are held one after the other, byte by byte
+pub get_or-column-blocks_of : (k : ℕ) (bytes : List ℕ) (b place : ℕ) → b < 2048 → place < k
+    → get_or (column (blocks_of k bytes) b) place 0 ≡ get_or bytes (2048 * place + b) 0
+get_or-column-blocks_of k bytes b place below h =
+    get_or-column (blocks_of k bytes) b place (let n = length-blocks_of k bytes in omega (arith, n)) ∙ get_or-blocks_of k bytes place b h below

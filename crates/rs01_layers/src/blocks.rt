@@ -1,6 +1,7 @@
 //! Blocks and codeword columns of an image that is held whole.
 
 ghost use Rattle.std.specs.Prelude.{◌≡◌, ℕ, ◌+◌, ◌-◌, ◌*◌, ◌<◌, ◌≤◌, length, take, drop, slice_index};
+ghost use Rattle.rs01_layers.specs.Blocks.{blocks_of};
 ghost use Rattle.rs01_layers.specs.Sectors.{block, padded, sectors_of};
 ghost use Rattle.rs01_layers.specs.Layout.{layers_of};
 ghost use Rattle.rs01_layers.specs.Layer.{column, layer as blocks_of_layer};
@@ -56,5 +57,17 @@ pub fn column_into(image: &[u8], shape: &Shape, layer: u32, codeword: u32, into:
     for (place, byte) in into.iter_mut().enumerate() {
         let sector = layer as usize + place * layers;
         *byte = byte_at(image, 2048 * sector + codeword as usize);
+    }
+}
+
+/// Writes the data of a codeword, 0 to 2047, of blocks of 2048 bytes that stand one after the
+/// other: its byte of each of them. The buffer has a byte for each block.
+pub fn column_of_blocks_into(blocks: &[u8], codeword: u32, into: &mut [u8])
+    requires whole { length blocks.now ≡ 2048 * length into.old }
+    requires codeword { codeword < 2048 }
+    ensures { into.new ≡ column (blocks_of (length into.old) blocks.now) codeword }
+{
+    for (place, byte) in into.iter_mut().enumerate() {
+        *byte = blocks[2048 * place + codeword as usize];
     }
 }

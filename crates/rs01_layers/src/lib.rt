@@ -10,7 +10,7 @@ pub mod lists;
 pub mod shape;
 pub mod task;
 
-pub use blocks::{block_into, column_into, copy_padded};
+pub use blocks::{block_into, column_into, column_of_blocks_into, copy_padded};
 pub use extent::Extent;
 pub use input::LayerInput;
 pub use lists::{Bytes, Flags, Placed, PlacedList, SumList};
