@@ -1,3 +1,4 @@
+pub mod ErasedLemmas
 mod Zeros
 mod Accepted
 mod OpenedLemmas

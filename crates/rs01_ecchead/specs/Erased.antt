@@ -1,6 +1,6 @@
 -- Which sectors of an image file are erased, judged by what is known of the protected image. The image file is the
 -- list y, and s is the number of a sector.
-use Rattle.std.specs.Prelude.{ℕ, ◌+◌, ◌-◌, ◌*◌, ◌==◌, ◌&&◌, ◌||◌, Bool, not, nat_lt, List, length, filter, count_by, Option, Some}
+use Rattle.std.specs.Prelude.{ℕ, ◌≡◌, ◌+◌, ◌-◌, ◌*◌, ◌==◌, ◌&&◌, ◌||◌, Bool, false, not, nat_lt, List, length, filter, count_by, Option, Some}
 use Rattle.std.specs.List.{range_with_len}
 use Rattle.std.specs.Str.{bytes_eq}
 use Rattle.rs01_layers.specs.Sectors.{block, length_of}
@@ -60,3 +60,10 @@ altered_sectors known y = filter (is_altered known y) (range_with_len 0 known.se
 -- how many sectors of layer l are erased, where codewords have r parity bytes
 unfoldable pub erased_in : Known → List ℕ → ℕ → ℕ → ℕ
 erased_in known y r l = count_by (λ s. is_erased known y s && (layer_of known.sectors r s == l)) (range_with_len 0 known.sectors)
+
+-- a sector is erased exactly where it is missing or altered, and it is never both
+abbrev pub ErasedIsMissingOrAltered : Type 0
+ErasedIsMissingOrAltered = (known : Known) (y : List ℕ) (s : ℕ) → is_erased known y s ≡ (is_missing known y s || is_altered known y s)
+
+abbrev pub MissingIsNotAltered : Type 0
+MissingIsNotAltered = (known : Known) (y : List ℕ) (s : ℕ) → (is_missing known y s && is_altered known y s) ≡ false

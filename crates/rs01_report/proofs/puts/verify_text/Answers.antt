@@ -1,4 +1,4 @@
-use Rattle.std.proofs.Common.{◌++◌, string_bytes}
+use Rattle.std.proofs.Common.{◌++◌}
 use Rattle.rs01_report.specs.Texts.{altered_line, beyond_line, checked_line, fingerprint_line, fullest_line, image_mark_line, missing_line, shape_line, surplus_line}
 use Rattle.rs01_report.proofs.PushLemmas.{nine_lines}
 use Rattle.rs01_report.proofs.puts.verify_text.Goals as goal

@@ -1,0 +1,6 @@
+mod AnswerLemmas
+mod ConditionLemmas
+mod CountLemmas
+mod FullnessLemmas
+mod PieceLemmas
+mod SurveyLemmas

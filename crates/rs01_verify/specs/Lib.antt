@@ -1,0 +1,5 @@
+pub mod Answer
+pub mod Condition
+pub mod Fullness
+pub mod Report
+pub mod Surveyed

@@ -1,0 +1,16 @@
+//! Checking an image against its error correction file.
+#![tactic(auto)]
+
+mod condition;
+mod fullest;
+mod marks;
+mod refusal;
+mod survey;
+mod tally;
+mod verifying;
+
+pub use refusal::VerifyRefusal;
+pub use verifying::verify;
+
+#[cfg(test)]
+mod tests;
