@@ -3,6 +3,8 @@ mod Numbered
 mod HeldLemmas
 mod InputLemmas
 mod PlacedLemmas
+mod CorrectLemmas
+mod AnswerLemmas
 mod PutLemmas
 mod ProgressLemmas
 mod OrderLemmas

@@ -7,11 +7,11 @@ use Rattle.std.proofs.lemmas.List.{at_drop_more, at_drop_all}
 use Rattle.rs01_layers.specs.declared.lists.Placed.{Placed}
 use Rattle.rs01_fix.specs.Repair.{block_of}
 
-first_has_place : (item : Placed) (rest : List Placed) (p : ℕ) → item.place ≡ p → block_of (item ∷ rest) p ≡ item.block
+pub first_has_place : (item : Placed) (rest : List Placed) (p : ℕ) → item.place ≡ p → block_of (item ∷ rest) p ≡ item.block
 first_has_place item rest p e =
     ap (λ o. option_map_or (λ (found : Placed). found.block) o []) (cond-true (eqb item.place p) (Some item) (find (λ (i : Placed). eqb i.place p) rest) (eq-eqb item.place p e))
 
-first_has_another : (item : Placed) (rest : List Placed) (p : ℕ) → (item.place ≡ p → ⊥) → block_of (item ∷ rest) p ≡ block_of rest p
+pub first_has_another : (item : Placed) (rest : List Placed) (p : ℕ) → (item.place ≡ p → ⊥) → block_of (item ∷ rest) p ≡ block_of rest p
 first_has_another item rest p ne =
     ap (λ o. option_map_or (λ (found : Placed). found.block) o []) (cond-false (eqb item.place p) (Some item) (find (λ (i : Placed). eqb i.place p) rest) (ne_eqb item.place p ne))
 

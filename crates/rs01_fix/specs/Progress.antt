@@ -1,8 +1,9 @@
 -- How far the repair of an image file has come. The layers are taken in rising order, and in each its places.
 use Rattle.std.specs.Prelude.{ℕ, ◌+◌, ◌*◌, ◌≡◌, ◌<◌, ◌≤◌, ◌⊎◌, Bool, IsTrue, IsSomeAnd, List, Option, length, max, slice_index, slice_index_or, false}
 use Rattle.rs01_layers.specs.Sectors.{length_of}
-use Rattle.rs01_layers.specs.Layout.{layer_of, layers_of, place_of}
+use Rattle.rs01_layers.specs.Layout.{layer_of, number_at, place_of}
 use Rattle.rs01_layers.specs.declared.task.LayerOut.{LayerOut}
+use Rattle.rs01_layers.specs.declared.task.LayerOut.TheVariants.{BadSum}
 use Rattle.rs01_ecchead.specs.Erased.{Known, image_len}
 use Rattle.rs01_fix.specs.Inputs.{flags_at}
 use Rattle.rs01_fix.specs.Between.{IsBetween}
@@ -46,3 +47,7 @@ HasBlocks flags answer = (p : ℕ) → IsTrue (slice_index_or flags p false) →
 -- the same of the answers to all layers
 abbrev pub HaveBlocks : Known → List ℕ → ℕ → (ℕ → LayerOut) → Type 0
 HaveBlocks known y r answers = (l : ℕ) → HasBlocks (flags_at known y r l) (answers l)
+
+-- a place that an answer names is that of a sector
+abbrev pub NamesSector : Known → ℕ → ℕ → LayerOut → Type 0
+NamesSector known r l answer = (p : ℕ) → answer ≡ BadSum p → number_at known.sectors r l p < known.sectors

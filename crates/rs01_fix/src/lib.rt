@@ -5,6 +5,8 @@ mod erased;
 mod held;
 mod input;
 mod places;
+mod reading;
 mod refusal;
+mod repair;
 
 pub use refusal::FixRefusal;
