@@ -26,6 +26,9 @@ pub one_more_piece : {A : Type 0} (f : ℕ → List A) (now after piece : List A
     → after ≡ now ++ piece → after ≡ flat_map f (range_with_len 0 (n + 1))
 one_more_piece f now after piece n held is put = put ∙ (λ i. held i ++ is i) ∙ sym (pieces_more f n)
 
+pub grown : {A : Type 0} (now after : List A) (item : A) (n : ℕ) → length now ≡ n → after ≡ now ++ item ∷ [] → length after ≡ n + 1
+grown now after item n long put = ap length put ∙ length-append now (item ∷ []) ∙ ap (λ k. k + 1) long
+
 -- pieces of 2048 bytes each
 pub length-pieces : (f : ℕ → List ℕ) (n : ℕ) → ((k : ℕ) → length (f k) ≡ 2048) → length (flat_map f (range_with_len 0 n)) ≡ 2048 * n
 length-pieces f zero same = omega arith

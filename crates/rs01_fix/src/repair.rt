@@ -1,5 +1,5 @@
 //! Repairing the layers of an image, one after the other.
-ghost use Rattle.std.specs.Prelude.{◌≡◌, ◌≢◌, ◌⊎◌, ◌+◌, ◌-◌, ◌*◌, ◌<◌, ◌≤◌, ◌++◌, ◌∷◌, [], Bool, Err, IfErr, IfOk, IsTrue, List, OnErr, OnOk, length, map, option_to_list, ℕ};
+ghost use Rattle.std.specs.Prelude.{◌≡◌, ◌≢◌, ◌⊎◌, ◌+◌, ◌-◌, ◌*◌, ◌<◌, ◌≤◌, ◌++◌, ◌∷◌, [], Bool, false, Some, Err, IfErr, IfOk, IsTrue, List, OnErr, OnOk, length, map, option_to_list, ℕ};
 ghost use Rattle.std.specs.List.{flat_map, range_with_len};
 ghost use Rattle.rs01_layers.specs.Layout.{file_size, layers_of};
 ghost use Rattle.rs01_outside.specs.Causes.{Rose};
@@ -7,7 +7,7 @@ ghost use Rattle.rs01_outside.specs.Files.{SameElsewhere, bytes_of};
 ghost use Rattle.rs01_ecchead.specs.Erased.{known_of};
 ghost use Rattle.rs01_fix.specs.Inputs.{flags_at, layer_answer, parity_at};
 ghost use Rattle.rs01_fix.specs.Progress.{HasBlocks, IsOnTheWay, NamesSector, StandsUnder};
-ghost use Rattle.rs01_fix.specs.Repair.{is_restored, strange_in};
+ghost use Rattle.rs01_fix.specs.Repair.{fixed_by, is_restored, strange_by, strange_in};
 
 use crate::held::Held;
 use crate::input::layer_input;
@@ -160,4 +160,56 @@ impl Repairs {
             None => Ok(()),
         }
     }
+}
+
+/// Repairs all layers of an image, in rising order.
+pub fn repair_layers<D: Desk>(
+    alloc: Global,
+    desk: &mut D,
+    image: &str,
+    ecc: &str,
+    held: &Held,
+) -> Result<Repairs, FixRefusal>
+    requires { image.now ≢ ecc.now }
+    ensures tells { D.tells desk.new ≡ D.tells desk.old }
+    ensures elsewhere { IsTrue (D.tells desk.old) → SameElsewhere image.now (D.files desk.old) (D.files desk.new) }
+    ensures restored { (e : List ℕ) → IsTrue (D.tells desk.old) → bytes_of (D.files desk.old) ecc.now ≡ e
+        → length e ≡ file_size held.now.ecc.head.sectors held.now.ecc.head.parity
+        → IfOk result (λ repairs. repairs.restored.items
+        ≡ map (λ l. is_restored (layer_answer (known_of held.now.ecc) e held.now.image.items held.now.ecc.head.parity l)) (range_with_len 0 (layers_of held.now.ecc.head.sectors held.now.ecc.head.parity))) }
+    ensures strange { (e : List ℕ) → IsTrue (D.tells desk.old) → bytes_of (D.files desk.old) ecc.now ≡ e
+        → length e ≡ file_size held.now.ecc.head.sectors held.now.ecc.head.parity
+        → IfOk result (λ repairs. repairs.strange.items
+        ≡ strange_by (known_of held.now.ecc) held.now.ecc.head.parity (layer_answer (known_of held.now.ecc) e held.now.image.items held.now.ecc.head.parity)) }
+    ensures len { IfOk result (λ repairs. length repairs.restored.items ≡ layers_of held.now.ecc.head.sectors held.now.ecc.head.parity) }
+    ensures done { (e : List ℕ) → IsTrue (D.tells desk.old) → bytes_of (D.files desk.old) ecc.now ≡ e
+        → length e ≡ file_size held.now.ecc.head.sectors held.now.ecc.head.parity → D.files desk.old image.now ≡ Some held.now.image.items
+        → OnOk result (D.files desk.new image.now
+        ≡ Some (fixed_by (known_of held.now.ecc) held.now.image.items held.now.ecc.head.parity (layer_answer (known_of held.now.ecc) e held.now.image.items held.now.ecc.head.parity) false)) }
+    ensures left { (e : List ℕ) (cut : Bool) → IsTrue (D.tells desk.old) → bytes_of (D.files desk.old) ecc.now ≡ e
+        → length e ≡ file_size held.now.ecc.head.sectors held.now.ecc.head.parity → D.files desk.old image.now ≡ Some held.now.image.items
+        → IsOnTheWay (known_of held.now.ecc) held.now.image.items held.now.ecc.head.parity (layer_answer (known_of held.now.ecc) e held.now.image.items held.now.ecc.head.parity) cut (D.files desk.new image.now) }
+    ensures read_fault { result ≡ Err FixRefusal.ReadFault → Rose (D.read_faults desk.old) (D.read_faults desk.new) }
+    ensures write_fault { result ≡ Err FixRefusal.WriteFault → Rose (D.write_faults desk.old) (D.write_faults desk.new) }
+    ensures reads { result ≢ Err FixRefusal.ReadFault → D.read_faults desk.new ≡ D.read_faults desk.old }
+    ensures writes { result ≢ Err FixRefusal.WriteFault → D.write_faults desk.new ≡ D.write_faults desk.old }
+    ensures reads_later { D.read_faults desk.old ≤ D.read_faults desk.new }
+    ensures writes_later { D.write_faults desk.old ≤ D.write_faults desk.new }
+    ensures causes { IfErr result (λ why. (why ≡ FixRefusal.ReadFault) ⊎ ((why ≡ FixRefusal.WriteFault) ⊎ (why ≡ FixRefusal.OutOfMemory))) }
+{
+    let mut repairs = Repairs {
+        restored: Vec::new(alloc),
+        strange: Vec::new(alloc),
+    };
+    for layer in 0..held.ecc.shape().layers() {
+        let answer = match repair_layer(alloc, desk, image, ecc, held, layer) {
+            Ok(answer) => answer,
+            Err(why) => return Err(why),
+        };
+        match repairs.add(held, layer, &answer) {
+            Ok(()) => {}
+            Err(_) => return Err(FixRefusal::OutOfMemory),
+        }
+    }
+    Ok(repairs)
 }
