@@ -3,3 +3,4 @@ pub mod Maximal
 pub mod Texts
 pub mod Faults
 pub mod Causes
+pub mod FixTexts

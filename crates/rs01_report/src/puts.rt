@@ -237,7 +237,7 @@ fn body_text(alloc: Global, have: [u8; 16], want: [u8; 16]) -> Result<String, Al
 }
 
 // Puts a text.
-fn put_text<S: Sink>(text: &str, out: &mut S) -> Result<(), PutRefusal>
+pub(crate) fn put_text<S: Sink>(text: &str, out: &mut S) -> Result<(), PutRefusal>
     ensures tells { S.tells out.new ≡ S.tells out.old }
     ensures taken { IsTrue (S.tells out.old)
         → Takes (S.taken out.old) (S.taken out.new) text.now result }

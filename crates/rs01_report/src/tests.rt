@@ -206,3 +206,64 @@ fn lists(rt: HostRuntime) -> Result<(), Fail> {
     assert_eq!(rt; *list.get(1), 9);
     Ok(())
 }
+
+// A report of `fix`.
+fn fix_report(
+    alloc: Global,
+    restored: &[u32],
+    strange: &[Strange],
+    surplus: u64,
+    cut: bool,
+) -> Result<FixReport, Fail> {
+    Ok(FixReport {
+        restored: SectorList::of(restored.to_vec(alloc)?),
+        lost: SectorList::of([9u32].to_vec(alloc)?),
+        strange: StrangeList::of(strange.to_vec(alloc)?),
+        surplus,
+        cut,
+    })
+}
+
+#[test]
+fn fixed(rt: HostRuntime) -> Result<(), Fail> {
+    let codeword = Strange {
+        layer: 0,
+        why: Why::Codeword(5),
+    };
+    let sum = Strange {
+        layer: 1,
+        why: Why::Sum(3),
+    };
+    let layers = [codeword, sum];
+    let both =
+        "strange layers 2\nlayer 0: codeword 5 disagrees\nlayer 1: sector 3 has another checksum\n";
+    for (strange, surplus, cut, ends) in [
+        (
+            &layers[..0],
+            0,
+            false,
+            "strange layers 0\nsurplus bytes 0\n",
+        ),
+        (
+            &layers[..0],
+            4096,
+            true,
+            "strange layers 0\nsurplus bytes 4096, cut\n",
+        ),
+        (&layers[..], 7, false, both),
+    ] {
+        let report = fix_report(rt.alloc(), &[10, 11, 12, 17], strange, surplus, cut)?;
+        let mut out = empty_page(rt.alloc(), false);
+        assert!(rt; put_fix(rt.alloc(), &report, "disc.iso", &mut out).is_ok());
+        let last = if strange.len() == 2 {
+            "surplus bytes 7\n"
+        } else {
+            ""
+        };
+        let want = format!(in rt.alloc();
+            "fixed disc.iso\nrestored 4: 10-12,17\nlost 1: 9\n{ends}{last}"
+        )?;
+        assert_eq!(rt; out.bytes.as_slice(), want.as_bytes());
+    }
+    Ok(())
+}

@@ -1,0 +1,12 @@
+mod ErasedLemmas
+mod Numbered
+mod HeldLemmas
+mod InputLemmas
+mod PlacedLemmas
+mod CorrectLemmas
+mod AnswerLemmas
+mod PutLemmas
+mod ProgressLemmas
+mod OrderLemmas
+mod FixedLemmas
+mod StandLemmas
