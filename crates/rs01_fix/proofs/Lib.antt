@@ -1,3 +1,4 @@
+pub mod Counts
 mod ErasedLemmas
 mod Numbered
 mod HeldLemmas
