@@ -1,5 +1,6 @@
 mod ErasedLemmas
 mod Numbered
+mod FlagLemmas
 mod HeldLemmas
 mod InputLemmas
 mod PlacedLemmas
@@ -10,3 +11,5 @@ mod ProgressLemmas
 mod OrderLemmas
 mod FixedLemmas
 mod StandLemmas
+mod CutLemmas
+mod FileLemmas
