@@ -1,4 +1,4 @@
--- An image that is held: its flags, and what is known of it.
+-- What is known of an image that is held, and steps of answers.
 use Rattle.std.proofs.Common.{◌≡◌, ℕ, ◌+◌, ◌<◌, List, length, map, get_or, ap, ◌∙◌, refl, sym, arith, Bool, true, false}
 use Rattle.std.specs.Prelude.{Result, Ok, Err, OnErr, ◌&&◌}
 use Rattle.std.specs.List.{range_with_len}
@@ -7,12 +7,6 @@ use Rattle.std.proofs.lemmas.List.{length-map}
 use Rattle.rs01_ecchead.specs.Erased.{known_of}
 use Rattle.rs01_ecchead.specs.declared.opened.Ecc.{Ecc}
 use Rattle.rs01_fix.proofs.FixedLemmas.{IsImage}
-
-pub all_flags : (f : ℕ → Bool) (flags : List Bool) (n : ℕ) → flags ≡ map f (range_with_len 0 n) → length flags ≡ n
-all_flags f flags n e = ap length e ∙ length-map (range_with_len 0 n) f ∙ length-range_with_len 0 n
-
-pub flag_of : (f : ℕ → Bool) (flags : List Bool) (n s : ℕ) (d : Bool) → flags ≡ map f (range_with_len 0 n) → s < n → get_or flags s d ≡ f s
-flag_of f flags n s d e h = ap (λ xs. get_or xs s d) e ∙ get_or-map-range_with_len f 0 n s s d h (let z : 0 + s ≡ s = omega arith in z)
 
 -- an opened error correction file is one of an image that can be protected
 pub is_image : (ecc : Ecc) → IsImage (known_of ecc) ecc.head.parity

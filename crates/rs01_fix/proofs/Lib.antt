@@ -1,6 +1,7 @@
 pub mod Counts
 mod ErasedLemmas
 mod Numbered
+mod FlagLemmas
 mod HeldLemmas
 mod InputLemmas
 mod PlacedLemmas
@@ -11,3 +12,5 @@ mod ProgressLemmas
 mod OrderLemmas
 mod FixedLemmas
 mod StandLemmas
+mod CutLemmas
+mod FileLemmas

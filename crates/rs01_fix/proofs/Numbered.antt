@@ -1,5 +1,7 @@
 -- Lists made from the numbers 0, 1, 2 and so on, one more at a time.
-use Rattle.std.proofs.Common.{◌≡◌, ℕ, zero, suc, ◌+◌, ◌-◌, ◌*◌, ◌<◌, ◌≤◌, List, [], ◌∷◌, ◌++◌, map, length, get_or, refl, sym, ap, ◌∙◌, arith, add-one, append_assoc, append-nil, ⊎_elim}
+use Rattle.std.proofs.Common.{◌≡◌, ℕ, zero, suc, ◌+◌, ◌-◌, ◌*◌, ◌<◌, ◌≤◌, List, [], ◌∷◌, ◌++◌, map, length, get_or, refl, sym, ap, ◌∙◌, arith, add-one, append_assoc, append-nil, ⊎_elim, cond}
+use Rattle.std.specs.Prelude.{Bool, filter}
+use Rattle.std.proofs.lemmas.List.Elements.{filter-append}
 use Rattle.std.specs.List.{flat_map, range_with_len}
 use Rattle.std.proofs.lemmas.List.Concat.{flat_map-append}
 use Rattle.std.proofs.lemmas.List.{map-append, length-append, get_or_append_left, get_or-append_right}
@@ -25,6 +27,12 @@ pieces_more f n =
 pub one_more_piece : {A : Type 0} (f : ℕ → List A) (now after piece : List A) (n : ℕ) → now ≡ flat_map f (range_with_len 0 n) → piece ≡ f n
     → after ≡ now ++ piece → after ≡ flat_map f (range_with_len 0 (n + 1))
 one_more_piece f now after piece n held is put = put ∙ (λ i. held i ++ is i) ∙ sym (pieces_more f n)
+
+-- the numbers that pass a test
+pub one_more_kept : (p : ℕ → Bool) (now after : List ℕ) (b : Bool) (n : ℕ) → now ≡ filter p (range_with_len 0 n) → b ≡ p n
+    → after ≡ now ++ cond b (n ∷ []) [] → after ≡ filter p (range_with_len 0 (n + 1))
+one_more_kept p now after b n held is put =
+    put ∙ (λ i. held i ++ cond (is i) (n ∷ []) []) ∙ sym (ap (filter p) (numbers_more n) ∙ filter-append p (range_with_len 0 n) (n ∷ []))
 
 pub grown : {A : Type 0} (now after : List A) (item : A) (n : ℕ) → length now ≡ n → after ≡ now ++ item ∷ [] → length after ≡ n + 1
 grown now after item n long put = ap length put ∙ length-append now (item ∷ []) ∙ ap (λ k. k + 1) long

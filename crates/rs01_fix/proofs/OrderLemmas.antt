@@ -82,3 +82,6 @@ done_or_ahead n r l p s =
     (λ ne. inr (inl (omega arith)))
     (cases_eq (layer_of n r s) l))
     (cases_lt (layer_of n r s) l)
+
+pub layer_in_range : (n r s : ℕ) → IsShape n r → s < n → layer_of n r s < layers_of n r
+layer_in_range n r s shape below = (each_sector_has_a_place n r s shape below).0

@@ -21,7 +21,7 @@ use Rattle.rs01_fix.proofs.ProgressLemmas.{Sizes, IsFixed, ends_within, holds_st
 use Rattle.rs01_fix.proofs.OrderLemmas.{done_more, ahead_less, here_ahead, done_padding, ahead_padding, done_layer, ahead_layer, none_done, all_done, done_or_ahead}
 use Rattle.rs01_fix.proofs.FixedLemmas.{IsImage, both_parts, sizes_of, after-mended, after-absent, after-same, flag_of_sector, mended_parts, length-after, fixed_is, length-fixed_by, surplus_stays}
 
-there_ends : (n len : ℕ) → nat_lt n len ≡ false → len ≤ n
+pub there_ends : (n len : ℕ) → nat_lt n len ≡ false → len ≤ n
 there_ends n len e = ⊎_elim (λ h. absurd (let t = lt-ltb n len h in cc)) (λ h. h) (cases_lt n len)
 
 -- a sector's bytes that were put in place

@@ -37,7 +37,7 @@ fn place_flag(held: &Held, layer: u32, place: u32) -> bool
     ensures { result ≡ flag_at (known_of held.now.ecc) held.now.image.items held.now.ecc.head.parity layer place }
 {
     match held.ecc.shape().sector_at(layer, place) {
-        Some(sector) => held.erased[sector as usize],
+        Some(sector) => held.is_erased(sector),
         None => false,
     }
 }

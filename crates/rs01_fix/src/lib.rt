@@ -2,11 +2,14 @@
 #![tactic(auto)]
 
 mod erased;
+mod fixing;
 mod held;
 mod input;
 mod places;
 mod reading;
 mod refusal;
 mod repair;
+mod told;
 
+pub use fixing::fix_one;
 pub use refusal::FixRefusal;

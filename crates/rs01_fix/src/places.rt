@@ -74,7 +74,7 @@ fn sector_is_mended(held: &Held, sector: u32, answer: &LayerOut) -> bool
     requires { sector < held.now.ecc.head.sectors }
     ensures { result ≡ (is_erased (known_of held.now.ecc) held.now.image.items sector && is_restored answer.now) }
 {
-    held.erased[sector as usize] && layer_is_restored(answer)
+    held.is_erased(sector) && layer_is_restored(answer)
 }
 
 // Whether the image file ends before a sector does.
