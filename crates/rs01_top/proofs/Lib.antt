@@ -1,4 +1,5 @@
 mod CreateRuns
+mod FixRuns
 mod Prefixes
 mod RunLemmas
 mod Runs

@@ -11,7 +11,7 @@ use Rattle.rs01_words.specs.declared.fault.WordRefused.{WordRefused}
 use Rattle.rs01_words.specs.Line.{word_at}
 use Rattle.rs01_top.specs.Faults.{word_fault}
 use Rattle.rs01_top.specs.Answer.{AnswerTo, IsNoWork, IsRefusedByFiles, MayStand}
-use Rattle.rs01_top.specs.Run.{Counts, IsCreateRun, IsRun, IsVerifyRun, Telling}
+use Rattle.rs01_top.specs.Run.{Counts, IsCreateRun, IsFixRun, IsRun, IsVerifyRun, Telling}
 use Rattle.rs01_top.proofs.RunLemmas.{as_told, settled}
 
 -- words for which nothing is done
@@ -41,9 +41,7 @@ pub of_command : (asked : Command) (words : List (List ℕ)) (dt ot : Bool) (old
     → Telling (fault_line fault.NotBuilt) 2 ot t t' n.puts n.puts' status
     → IsRun (Ok asked) words dt ot old old t t' n status
 of_command (command.Create image ecc parity workers) words dt ot old t t' n status none reads writes told = absurd none
-of_command (command.Fix image ecc workers cut) words dt ot old t t' n status none reads writes told =
-    no_work (Ok (command.Fix image ecc workers cut)) words fault.NotBuilt dt ot old t t' n status tt
-    (record { files = refl; line = refl; number_is = refl }) refl (λ h. h) reads writes told
+of_command (command.Fix image ecc workers cut) words dt ot old t t' n status none reads writes told = absurd none
 of_command (command.Verify image ecc) words dt ot old t t' n status none reads writes told = absurd none
 of_command (command.Scan ecc drives) words dt ot old t t' n status none reads writes told =
     no_work (Ok (command.Scan ecc drives)) words fault.NotBuilt dt ot old t t' n status tt
@@ -79,4 +77,17 @@ verify_run asked image ecc image_name ecc_name words dt ot old new t t' n status
     let run : IsVerifyRun (word_at words image) (word_at words ecc) dt ot old new t t' n status =
     subst (λ (x : List ℕ). IsVerifyRun x (word_at words ecc) dt ot old new t t' n status) i
     (subst (λ (x : List ℕ). IsVerifyRun image_name x dt ot old new t t' n status) f checked) in
+    subst (λ (a : Command). IsRun (Ok a) words dt ot old new t t' n status) (sym e) run
+
+-- and those of `fix`
+pub fix_run : (asked : Command) (image ecc workers : ℕ) (cut : Bool) (image_name ecc_name : List ℕ) (words : List (List ℕ)) (dt ot : Bool) (old new : Files) (t t' : List ℕ)
+    (n : Counts) (status : ℕ)
+    → asked ≡ command.Fix image ecc workers cut
+    → image_name ≡ word_at words image → ecc_name ≡ word_at words ecc
+    → IsFixRun image_name ecc_name cut dt ot old new t t' n status
+    → IsRun (Ok asked) words dt ot old new t t' n status
+fix_run asked image ecc workers cut image_name ecc_name words dt ot old new t t' n status e i f fixed =
+    let run : IsFixRun (word_at words image) (word_at words ecc) cut dt ot old new t t' n status =
+    subst (λ (x : List ℕ). IsFixRun x (word_at words ecc) cut dt ot old new t t' n status) i
+    (subst (λ (x : List ℕ). IsFixRun image_name x cut dt ot old new t t' n status) f fixed) in
     subst (λ (a : Command). IsRun (Ok a) words dt ot old new t t' n status) (sym e) run

@@ -15,14 +15,14 @@ use Rattle.rs01_top.specs.Answer.{VerifyAnswer, checked_status, is_match}
 use Rattle.rs01_top.specs.Run.{Counts, IsSettled, IsVerifyRun, Telling}
 use Rattle.rs01_top.proofs.RunLemmas.{IsTold, as_told, settled, faulted, out_of_memory}
 
-none_or_one : (b : Bool) (n : ℕ) → n ≡ (if b then 0 else 1) → (n ≡ 0) ⊎ (n ≡ 1)
+pub none_or_one : (b : Bool) (n : ℕ) → n ≡ (if b then 0 else 1) → (n ≡ 0) ⊎ (n ≡ 1)
 none_or_one true n e = inl e
 none_or_one false n e = inr e
 
 checked_range : (report : VerifyReport) → (checked_status report ≡ 0) ⊎ (checked_status report ≡ 1)
 checked_range report = none_or_one ((length report.missing == 0) && ((length report.altered == 0) && is_match report.image)) (checked_status report) refl
 
-settled_range : (n : ℕ) → (n ≡ 0) ⊎ (n ≡ 1) → IsSettled n
+pub settled_range : (n : ℕ) → (n ≡ 0) ⊎ (n ≡ 1) → IsSettled n
 settled_range n (inl e) = inl e
 settled_range n (inr e) = inr (inl e)
 

@@ -11,6 +11,8 @@ use Rattle.rs01_ecchead.specs.declared.head.HeadRefusal.{HeadRefusal}
 use Rattle.rs01_ecchead.specs.declared.head.HeadRefusal.TheVariants as head
 use Rattle.rs01_ecchead.specs.declared.opened.Which.{Which}
 use Rattle.rs01_ecchead.specs.declared.opened.Which.TheVariants as which
+use Rattle.rs01_fix.specs.declared.refusal.FixRefusal.{FixRefusal}
+use Rattle.rs01_fix.specs.declared.refusal.FixRefusal.TheVariants as fix
 use Rattle.rs01_verify.specs.declared.refusal.VerifyRefusal.{VerifyRefusal}
 use Rattle.rs01_verify.specs.declared.refusal.VerifyRefusal.TheVariants as verify
 
@@ -79,3 +81,22 @@ verify_status (verify.Size have want) = 3
 verify_status (verify.Body have want) = 3
 verify_status verify.ReadFault = 4
 verify_status verify.OutOfMemory = 7
+
+-- why an image wasn't repaired
+abbrev pub fix_fault : FixRefusal → Fault
+fix_fault (fix.NoFile which) = absent_fault which
+fix_fault (fix.Head why) = head_fault why
+fix_fault (fix.Size have want) = fault.Size have want
+fix_fault (fix.Body have want) = fault.Body have want
+fix_fault fix.ReadFault = fault.ReadFault
+fix_fault fix.WriteFault = fault.WriteFault
+fix_fault fix.OutOfMemory = fault.OutOfMemory
+
+abbrev pub fix_status : FixRefusal → ℕ
+fix_status (fix.NoFile which) = 3
+fix_status (fix.Head why) = 3
+fix_status (fix.Size have want) = 3
+fix_status (fix.Body have want) = 3
+fix_status fix.ReadFault = 4
+fix_status fix.WriteFault = 4
+fix_status fix.OutOfMemory = 7

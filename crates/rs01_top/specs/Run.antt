@@ -7,8 +7,9 @@ use Rattle.rs01_report.specs.Faults.{fault_line}
 use Rattle.rs01_words.specs.declared.command.Command.{Command}
 use Rattle.rs01_words.specs.declared.fault.WordRefused.{WordRefused}
 use Rattle.rs01_create.specs.Create.{refusal_of}
+use Rattle.rs01_fix.specs.Answer.{fix_answer}
 use Rattle.rs01_verify.specs.Answer.{verify_answer}
-use Rattle.rs01_top.specs.Answer.{AnswerTo, CreateAnswer, IsNoWork, IsRefusedByFiles, MayStand, MayStandAfterCreate, VerifyAnswer}
+use Rattle.rs01_top.specs.Answer.{AnswerTo, CreateAnswer, FixAnswer, IsNoWork, IsRefusedByFiles, MayStand, MayStandAfterCreate, MayStandAfterFix, VerifyAnswer}
 
 -- a status of a run that met no fault and no want of memory
 abbrev pub IsSettled : ℕ → Type 0
@@ -75,6 +76,12 @@ IsCreateRun image ecc r desk_tells out_tells old new taken taken' counts status 
 abbrev pub IsVerifyRun : (image ecc : List ℕ) → Bool → Bool → Files → Files → List ℕ → List ℕ → Counts → ℕ → Type 0
 IsVerifyRun image ecc desk_tells out_tells old new taken taken' counts status =
     IsRunOf (VerifyAnswer (verify_answer (old ecc) (old image)) image old new) (new ≡ old) ⊥ (IsErr (verify_answer (old ecc) (old image)))
+    desk_tells out_tells taken taken' counts status
+
+-- a run that repairs an image
+abbrev pub IsFixRun : (image ecc : List ℕ) → Bool → Bool → Bool → Files → Files → List ℕ → List ℕ → Counts → ℕ → Type 0
+IsFixRun image ecc cut desk_tells out_tells old new taken taken' counts status =
+    IsRunOf (FixAnswer (fix_answer (old ecc) (old image) cut) image old new) (MayStandAfterFix (fix_answer (old ecc) (old image) cut) image old new) ⊥ (IsErr (fix_answer (old ecc) (old image) cut))
     desk_tells out_tells taken taken' counts status
 
 -- a run that does what was asked for by words

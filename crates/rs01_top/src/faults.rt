@@ -1,9 +1,10 @@
 //! Which fault a refusal is told as, and with which status.
 ghost use Rattle.std.specs.Prelude.{◌≡◌};
-ghost use Rattle.rs01_top.specs.Faults.{absent_fault, create_fault, create_status, head_fault, verify_fault, verify_status, word_fault};
+ghost use Rattle.rs01_top.specs.Faults.{absent_fault, create_fault, create_status, fix_fault, fix_status, head_fault, verify_fault, verify_status, word_fault};
 
 use rs01_create::CreateRefusal;
 use rs01_ecchead::{HeadRefusal, Which};
+use rs01_fix::FixRefusal;
 use rs01_report::Fault;
 use rs01_verify::VerifyRefusal;
 use rs01_words::{WordFault, WordRefused};
@@ -104,5 +105,34 @@ pub fn verify_status(why: VerifyRefusal) -> u8
         | VerifyRefusal::Body { .. } => 3,
         VerifyRefusal::ReadFault => 4,
         VerifyRefusal::OutOfMemory => 7,
+    }
+}
+
+// The fault of an image that wasn't repaired.
+pub fn fix_fault(why: FixRefusal) -> Fault
+    ensures { result ≡ fix_fault why }
+{
+    match why {
+        FixRefusal::NoFile(which) => absent_fault(which),
+        FixRefusal::Head(why) => head_fault(why),
+        FixRefusal::Size { have, want } => Fault::Size(have, want),
+        FixRefusal::Body { have, want } => Fault::Body(have, want),
+        FixRefusal::ReadFault => Fault::ReadFault,
+        FixRefusal::WriteFault => Fault::WriteFault,
+        FixRefusal::OutOfMemory => Fault::OutOfMemory,
+    }
+}
+
+// The status of a run that repaired no image.
+pub fn fix_status(why: FixRefusal) -> u8
+    ensures { result ≡ fix_status why }
+{
+    match why {
+        FixRefusal::NoFile(_)
+        | FixRefusal::Head(_)
+        | FixRefusal::Size { .. }
+        | FixRefusal::Body { .. } => 3,
+        FixRefusal::ReadFault | FixRefusal::WriteFault => 4,
+        FixRefusal::OutOfMemory => 7,
     }
 }

@@ -4,11 +4,14 @@ ghost use Rattle.rs01_words.specs.Command.{IsWithin, NamesDiffer, words_of};
 ghost use Rattle.rs01_outside.specs.Causes.{Rose};
 ghost use Rattle.rs01_report.specs.Faults.{fault_line};
 ghost use Rattle.rs01_top.specs.Answer.{Answers, IsNoWork, IsRefusedByFiles, MayStand};
-ghost use Rattle.rs01_top.specs.Run.{IsCreateRun, IsRun, IsSettled, IsVerifyRun, PutsPrefix, Telling, TellsFault};
+ghost use Rattle.rs01_top.specs.Run.{IsCreateRun, IsFixRun, IsRun, IsSettled, IsVerifyRun, PutsPrefix, Telling, TellsFault};
 
-use crate::faults::{create_fault, create_status, verify_fault, verify_status, word_fault};
-use crate::tell::{tell_checked, tell_created, tell_fault};
+use crate::faults::{
+    create_fault, create_status, fix_fault, fix_status, verify_fault, verify_status, word_fault,
+};
+use crate::tell::{tell_checked, tell_created, tell_fault, tell_fixed};
 use rs01_create::create_one;
+use rs01_fix::fix_one;
 use rs01_outside::{Desk, Sink};
 use rs01_report::Fault;
 use rs01_verify::verify;
@@ -65,6 +68,34 @@ fn check<D: Desk, S: Sink>(alloc: Global, desk: &mut D, image: &str, ecc: &str, 
     }
 }
 
+// Repairs an image by its error correction file, and tells what was restored and what is lost.
+fn repair<D: Desk, S: Sink>(
+    alloc: Global,
+    desk: &mut D,
+    image: &str,
+    ecc: &str,
+    cut: bool,
+    out: &mut S,
+) -> u8
+    requires { image.now ≢ ecc.now }
+    ensures desk_tells { D.tells desk.new ≡ D.tells desk.old }
+    ensures out_tells { S.tells out.new ≡ S.tells out.old }
+    ensures run { IsFixRun image.now ecc.now cut (D.tells desk.old) (S.tells out.old) (D.files desk.old) (D.files desk.new) (S.taken out.old) (S.taken out.new)
+        record {
+          reads = D.read_faults desk.old;
+          reads' = D.read_faults desk.new;
+          writes = D.write_faults desk.old;
+          writes' = D.write_faults desk.new;
+          puts = S.faults out.old;
+          puts' = S.faults out.new;
+        } result }
+{
+    match fix_one(alloc, desk, image, ecc, cut) {
+        Ok(report) => tell_fixed(alloc, &report, image, out),
+        Err(why) => tell_fault(alloc, &fix_fault(why), fix_status(why), out),
+    }
+}
+
 // Tells that a command isn't built yet.
 fn not_built<S: Sink>(alloc: Global, out: &mut S) -> u8
     ensures tells { S.tells out.new ≡ S.tells out.old }
@@ -109,7 +140,19 @@ fn carry_out<D: Desk, S: Sink>(
             *parity,
             out,
         ),
-        Command::Fix { .. } => not_built(alloc, out),
+        Command::Fix {
+            image,
+            ecc,
+            cut,
+            ..
+        } => repair(
+            alloc,
+            desk,
+            word_at(words, *image),
+            word_at(words, *ecc),
+            *cut,
+            out,
+        ),
         Command::Verify { image, ecc } => check(
             alloc,
             desk,
@@ -148,8 +191,8 @@ fn answer<D: Desk, S: Sink>(alloc: Global, words: &[String], desk: &mut D, out: 
 ///
 /// | Status | Where |
 /// |---|---|
-/// | 0 | the command was done, and `verify` found no sector missing or altered and the image's digest to match |
-/// | 1 | `verify` was done, and found otherwise |
+/// | 0 | the command was done; `fix` left no sector lost and found no layer strange; `verify` found no sector missing or altered, and the image's digest to match |
+/// | 1 | `fix` or `verify` was done, and it is otherwise |
 /// | 2 | the words aren't in the grammar, or their command isn't built yet |
 /// | 3 | the image isn't there, is empty, has too many sectors, or has a sector that is marked as missing; or the error correction file isn't there or is damaged |
 /// | 4 | a file could not be read or written |

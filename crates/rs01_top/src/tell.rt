@@ -2,13 +2,15 @@
 ghost use Rattle.std.specs.Prelude.{◌≡◌, ◌≢◌, ◌⊎◌, [], IsTrue};
 ghost use Rattle.rs01_outside.specs.Causes.{Rose};
 ghost use Rattle.rs01_report.specs.Faults.{fault_line};
+ghost use Rattle.rs01_report.specs.FixTexts.{fix_lines};
 ghost use Rattle.rs01_report.specs.Texts.{create_lines, verify_lines};
-ghost use Rattle.rs01_top.specs.Answer.{checked_status, is_match};
+ghost use Rattle.rs01_top.specs.Answer.{checked_status, fixed_status, is_match};
 ghost use Rattle.rs01_top.specs.Run.{PutsPrefix, TellsFault};
 
 use rs01_outside::Sink;
 use rs01_report::{
-    CreateReport, Fault, Mark, PutRefusal, VerifyReport, put_create, put_fault, put_verify,
+    CreateReport, Fault, FixReport, Mark, PutRefusal, VerifyReport, put_create, put_fault, put_fix,
+    put_verify,
 };
 use std::alloc::Global;
 
@@ -84,6 +86,32 @@ pub fn tell_checked<S: Sink>(alloc: Global, report: &VerifyReport, name: &str, o
 {
     match put_verify(alloc, report, name, out) {
         Ok(()) => checked_status(report),
+        Err(PutRefusal::OutOfMemory) => 7,
+        Err(PutRefusal::SinkFault) => 6,
+    }
+}
+
+// The status of a repair: 0 where no sector is lost and no layer is strange.
+fn fixed_status(report: &FixReport) -> u8
+    ensures { result ≡ fixed_status report.now }
+{
+    let lost = report.lost.len();
+    let strange = report.strange.len();
+    if lost == 0 && strange == 0 { 0 } else { 1 }
+}
+
+// Puts the report of a repair and gives the status.
+pub fn tell_fixed<S: Sink>(alloc: Global, report: &FixReport, name: &str, out: &mut S) -> u8
+    ensures tells { S.tells out.new ≡ S.tells out.old }
+    ensures range { (result ≡ fixed_status report.now) ⊎ (result ≡ 6) ⊎ (result ≡ 7) }
+    ensures whole { result ≡ fixed_status report.now → TellsFault (S.tells out.old) (fix_lines report.now name.now) (S.taken out.old) (S.taken out.new) }
+    ensures prefix { PutsPrefix (S.tells out.old) (fix_lines report.now name.now) (S.taken out.old) (S.taken out.new) }
+    ensures nothing { result ≡ 7 → TellsFault (S.tells out.old) [] (S.taken out.old) (S.taken out.new) }
+    ensures cause { result ≡ 6 → Rose (S.faults out.old) (S.faults out.new) }
+    ensures quiet { result ≡ fixed_status report.now → S.faults out.new ≡ S.faults out.old }
+{
+    match put_fix(alloc, report, name, out) {
+        Ok(()) => fixed_status(report),
         Err(PutRefusal::OutOfMemory) => 7,
         Err(PutRefusal::SinkFault) => 6,
     }

@@ -3,6 +3,7 @@ use crate::run_one;
 use rs01_fakes::{MemoryDesk, MemorySink};
 use rs01_outside::{Desk, Failed, Sink};
 use std::alloc::{AllocError, Global};
+use std::fmt::Write;
 use std::process::Abort;
 use std::test::Fail;
 
@@ -59,7 +60,6 @@ fn words_that_give_no_work(rt: HostRuntime) -> Result<(), Fail> {
         ("create a b --workers 0", "rs01: word 4: out of range\n"),
         ("create a", "rs01: word 2: something is missing\n"),
         ("create a a", "rs01: word 2: the same name twice\n"),
-        ("fix a b", "rs01: not built yet\n"),
         ("scan --drive d", "rs01: not built yet\n"),
         ("read a --drive d", "rs01: not built yet\n"),
         ("demo 1 300 32 40", "rs01: not built yet\n"),
@@ -206,12 +206,14 @@ fn faults(rt: HostRuntime) -> Result<(), Fail> {
     Ok(())
 }
 
-// A desk with an image of 224 sectors of zeros and its error correction file.
-fn protected(alloc: Global) -> Result<MemoryDesk, AllocError> {
+// A desk with an image of so many zeros and its error correction file.
+fn protected(alloc: Global, len: usize, parity: u32) -> Result<MemoryDesk, AllocError> {
     let mut desk = MemoryDesk::new(alloc);
-    let image = image_with(alloc, 224 * 2048, 0, b"")?;
+    let image = image_with(alloc, len, 0, b"")?;
     desk.put_file(alloc, "disc.iso", &image)?;
-    let words = words_of(alloc, "create disc.iso disc.ecc")?;
+    let mut line = String::new(alloc);
+    write!(line, "create disc.iso disc.ecc --parity {parity}")?;
+    let words = words_of(alloc, line.as_str())?;
     let _status = run_one(alloc, &words, &mut desk, &mut MemorySink::new(alloc));
     Ok(desk)
 }
@@ -250,7 +252,7 @@ fn checked_images(rt: HostRuntime) -> Result<(), Fail> {
         ),
     ];
     for (len, at, bytes, status, want) in cases {
-        let mut desk = protected(rt.alloc())?;
+        let mut desk = protected(rt.alloc(), 458_752, 32)?;
         assert!(rt;
             desk.cut("disc.iso", len).is_ok() && desk.write_at("disc.iso", at, bytes).is_ok()
         );
@@ -261,8 +263,8 @@ fn checked_images(rt: HostRuntime) -> Result<(), Fail> {
 }
 
 #[test]
-fn files_that_check_no_image(rt: HostRuntime) -> Result<(), Fail> {
-    // How the error correction file is cut, and what is put.
+fn files_that_are_refused(rt: HostRuntime) -> Result<(), Fail> {
+    // The length to which the error correction file is cut, the words, and what is put.
     for (len, want) in [
         (
             136_063,
@@ -270,12 +272,12 @@ fn files_that_check_no_image(rt: HostRuntime) -> Result<(), Fail> {
         ),
         (0, "rs01: the file has 0 bytes, 4096 are expected\n"),
     ] {
-        let mut desk = protected(rt.alloc())?;
+        let mut desk = protected(rt.alloc(), 458_752, 32)?;
         assert!(rt; desk.cut("disc.ecc", len).is_ok());
         let ran = puts(rt.alloc(), "verify disc.iso disc.ecc", &mut desk, want)?;
         assert_eq!(rt; ran, (3, true), "{want}");
     }
-    let mut desk = protected(rt.alloc())?;
+    let mut desk = protected(rt.alloc(), 458_752, 32)?;
     let want = "rs01: no error correction file\n";
     let ran = puts(rt.alloc(), "verify disc.iso other.ecc", &mut desk, want)?;
     assert_eq!(rt; ran, (3, true));
@@ -286,6 +288,94 @@ fn files_that_check_no_image(rt: HostRuntime) -> Result<(), Fail> {
         "rs01: no image\n",
     )?;
     assert_eq!(rt; ran, (3, true));
+    Ok(())
+}
+
+// Marks sectors as missing, from one to another.
+fn mark(alloc: Global, desk: &mut MemoryDesk, first: u32, last: u32) -> Result<bool, AllocError> {
+    let mut marked = true;
+    for sector in first..=last {
+        let mut text = String::new(alloc);
+        write!(text, "rs01 missing sector {sector:010}\n")?;
+        marked &= desk
+            .write_at("disc.iso", 2048 * u64::from(sector), text.as_bytes())
+            .is_ok();
+    }
+    Ok(marked)
+}
+
+#[test]
+fn repaired_images(rt: HostRuntime) -> Result<(), Fail> {
+    // The bytes of the image, the parity bytes, the length to which the image is cut or grows, the last of the marked sectors from
+    // 10 on, and the option; the status, the length of the repaired image, and what is put.
+    let cases: [(usize, u32, u64, u32, &str, u8, usize, &str); 5] = [
+        (
+            505_856,
+            8,
+            505_856,
+            17,
+            "",
+            0,
+            505_856,
+            "fixed disc.iso\nrestored 8: 10-17\nlost 0: none\nstrange layers 0\nsurplus bytes 0\n",
+        ),
+        (
+            505_856,
+            8,
+            505_856,
+            18,
+            "",
+            1,
+            505_856,
+            "fixed disc.iso\nrestored 0: none\nlost 9: 10-18\nstrange layers 0\nsurplus bytes 0\n",
+        ),
+        (
+            204_800,
+            32,
+            203_252,
+            9,
+            "",
+            0,
+            204_800,
+            "fixed disc.iso\nrestored 1: 99\nlost 0: none\nstrange layers 0\nsurplus bytes 0\n",
+        ),
+        (
+            204_800,
+            32,
+            208_896,
+            9,
+            "",
+            0,
+            208_896,
+            "fixed disc.iso\nrestored 0: none\nlost 0: none\nstrange layers 0\nsurplus bytes 4096\n",
+        ),
+        (
+            204_800,
+            32,
+            208_896,
+            9,
+            "--cut",
+            0,
+            204_800,
+            "fixed disc.iso\nrestored 0: none\nlost 0: none\nstrange layers 0\nsurplus bytes 4096, cut\n",
+        ),
+    ];
+    for (long, parity, len, last, option, status, size, want) in cases {
+        let mut desk = protected(rt.alloc(), long, parity)?;
+        assert!(rt;
+            desk.cut("disc.iso", len).is_ok() && desk.write_at("disc.iso", len - 1, &[0]).is_ok()
+        );
+        assert!(rt; mark(rt.alloc(), &mut desk, 10, last)?);
+        let mut line = String::new(rt.alloc());
+        write!(line, "fix disc.iso disc.ecc {option}")?;
+        let ran = puts(rt.alloc(), line.as_str(), &mut desk, want)?;
+        assert_eq!(rt; ran, (status, true), "{want}");
+        assert_eq!(rt; size_of(&desk, "disc.iso"), Some(size), "{want}");
+        let whole = desk
+            .file("disc.iso")
+            .is_some_and(|file| file.iter().all(|byte| *byte == 0));
+        assert_eq!(rt; whole, status == 0, "{want}");
+    }
     Ok(())
 }
 
