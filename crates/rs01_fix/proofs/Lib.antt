@@ -1,4 +1,6 @@
 pub mod Counts
+mod Intact
+mod ComesBack
 mod ErasedLemmas
 mod Numbered
 mod FlagLemmas
