@@ -13,3 +13,6 @@ mod told;
 
 pub use fixing::fix_one;
 pub use refusal::FixRefusal;
+
+#[cfg(test)]
+mod tests;
