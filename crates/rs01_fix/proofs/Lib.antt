@@ -13,3 +13,4 @@ mod FixedLemmas
 mod StandLemmas
 mod CutLemmas
 mod FileLemmas
+mod OriginalLemmas

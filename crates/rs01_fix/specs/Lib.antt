@@ -4,3 +4,4 @@ pub mod Fixed
 pub mod Between
 pub mod Progress
 pub mod Answer
+pub mod Original

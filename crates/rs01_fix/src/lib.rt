@@ -5,6 +5,7 @@ mod erased;
 mod fixing;
 mod held;
 mod input;
+pub mod laws;
 mod places;
 mod reading;
 mod refusal;
