@@ -1,5 +1,5 @@
 -- From the files to what is held of them.
-use Rattle.std.proofs.Common.{◌≡◌, ℕ, ◌+◌, ◌*◌, ◌<◌, ◌≤◌, List, length, sym, ap, ◌∙◌, arith}
+use Rattle.std.proofs.Common.{◌≡◌, ℕ, ◌+◌, ◌*◌, ◌<◌, ◌≤◌, List, ap, ◌∙◌, arith}
 use Rattle.rs01_layers.specs.Layout.{IsShape, file_size, layer_of, layers_of, parity_offset}
 use Rattle.rs01_layers.proofs.PlaceLemmas.{parity_is_in_file}
 use Rattle.rs01_ecchead.specs.Header.{part}

@@ -1,24 +1,26 @@
 -- An image comes back where its error correction file is intact.
-use Rattle.std.proofs.Common.{◌≡◌, ℕ, zero, suc, ◌+◌, ◌-◌, ◌*◌, ◌<◌, ◌≤◌, List, [], ◌++◌, length, take, drop, get_or, refl, sym, ap, subst, ◌∙◌, arith, Bool, true, false, cond, ltb, ⊎_elim, mod-lt}
-use Rattle.std.specs.Prelude.{filter, min, nat_lt, not, ◌&&◌, Option, Some, Result, Ok, IsOkAnd}
+use Rattle.std.proofs.Common.{◌≡◌, ℕ, zero, suc, ◌+◌, ◌-◌, ◌*◌, ◌<◌, ◌≤◌, List, [], ◌++◌, length, drop, get_or, refl, sym, ap, subst, ◌∙◌, arith, Bool, true, false, ⊎_elim, mod-lt}
+use Rattle.std.specs.Prelude.{filter, nat_lt, not, ◌&&◌, Option, Some, Result, Ok, Err, IsOkAnd, IsSomeAnd}
 use Rattle.std.specs.List.{flat_map, range_with_len}
 use Rattle.std.proofs.lemmas.Bool.{cases_Bool, cases_lt, false≢true, le-ltb, lt-ltb}
 use Rattle.std.proofs.lemmas.List.{get_or-take, get_or-drop, length-take, length-drop}
 use Rattle.std.proofs.lemmas.Grind.{same_number_lists}
-use Rattle.rs01_layers.specs.Sectors.{last_of, length_of, sector, sectors_of}
+use Rattle.rs01_layers.specs.Sectors.{last_of, length_of, sector}
 use Rattle.rs01_layers.specs.Layout.{layer_of, layers_of, number_at, place_of}
 use Rattle.rs01_layers.specs.Layer.{layer}
 use Rattle.rs01_layers.specs.declared.task.LayerOut.{LayerOut}
-use Rattle.rs01_layers.specs.declared.task.LayerOut.TheVariants.{Beyond, Restored}
 use Rattle.rs01_layers.proofs.BlockLemmas.{block_at-sector, get_or-layer, get_or-sector}
 use Rattle.rs01_layers.proofs.PlaceLemmas.{each_sector_has_a_place, place_determines_sector, some_layer}
 use Rattle.rs01_ecchead.specs.EccFile.{ecc_file, head_fields}
-use Rattle.rs01_ecchead.specs.Erased.{block_in, erased_in, is_absent, is_erased}
+use Rattle.rs01_ecchead.specs.Erased.{erased_in, is_absent, is_erased}
 use Rattle.rs01_ecchead.specs.Header.{Fields, part}
 use Rattle.rs01_ecchead.specs.declared.opened.EccRefusal.{EccRefusal}
 use Rattle.rs01_ecchead.proofs.ReadAgain.{read_again}
+use Rattle.rs01_outside.specs.Files.{Becomes, Files}
+use Rattle.rs01_report.specs.declared.fixes.FixReport.{FixReport}
 use Rattle.rs01_report.specs.declared.fixes.Strange.{Strange}
-use Rattle.rs01_erase.specs.LayerValue.{erased_places, placed}
+use Rattle.rs01_fix.specs.declared.refusal.FixRefusal.{FixRefusal}
+use Rattle.rs01_erase.specs.LayerValue.{erased_places}
 use Rattle.rs01_erase.proofs.ErasedPlaces.{flagged_erased}
 use Rattle.rs01_fix.specs.Answer.{Repaired, answer_with, fix_answer, repaired}
 use Rattle.rs01_fix.specs.ComesBack.{ComesBack, HasTheOthers, ImagesComeBack, IsProtected, IsSectorOf, is_beyond, known_of_image}
@@ -119,7 +121,7 @@ after_is image y r s is others below few =
     ∙ ap (sector image) number)
     (λ there.
     let present : is_absent known y s ≡ false =
-      ⊎_elim (λ absent. absurd (false≢true (sym there ∙ sym (absent_is_erased known y s absent)))) (λ p. p) (cases_Bool (is_absent known y s)) in
+    ⊎_elim (λ absent. absurd (false≢true (sym there ∙ sym (absent_is_erased known y s absent)))) (λ p. p) (cases_Bool (is_absent known y s)) in
     after-same known y r (answers image r y) s (mended ∙ ap (λ b. b && not (is_beyond image r y s)) there) present
     ∙ others s below there)
     (cases_Bool (is_erased known y s))
@@ -140,7 +142,7 @@ sector_is image y r s cut is others below within =
     let long = fixed.long in
     let fits = sizes.fits s in
     let few : erased_in known y r (layer_of (N image) r s) ≤ r =
-      ⊎_elim (λ many. absurd (false≢true (sym within ∙ lt-ltb r (erased_in known y r (layer_of (N image) r s)) many))) (λ h. h) (cases_lt r (erased_in known y r (layer_of (N image) r s))) in
+    ⊎_elim (λ many. absurd (false≢true (sym within ∙ lt-ltb r (erased_in known y r (layer_of (N image) r s)) many))) (λ h. h) (cases_lt r (erased_in known y r (layer_of (N image) r s))) in
     let one : length (part file (2048 * s) size) ≡ size = omega (arith, length-take size (drop (2048 * s) file), length-drop (2048 * s) file, long, ends) in
     let other : length (part image (2048 * s) size) ≡ size = omega (arith, length-take size (drop (2048 * s) image), length-drop (2048 * s) image, whole, ends) in
     same_number_lists (part file (2048 * s) size) (part image (2048 * s) size) (one ∙ sym other)
@@ -171,3 +173,24 @@ images_come_back image r y cut is others =
     let opened = (read_again image r is.some_bytes is.few_sectors is.least_parity is.most_parity).fields in
     subst (λ (o : Result Fields EccRefusal). IsOkAnd (answer_with o (ecc_file image r) (Some y) cut) (ComesBack image r y)) (sym opened)
     (comes_back image y r cut is others)
+
+-- one answer of which three things hold
+joined : (R : Result Repaired FixRefusal) (image original y : List ℕ) (r : ℕ) (old new : Files) (told : FixReport)
+    → IsOkAnd R (ComesBack original r y) → IsOkAnd R (λ repaired. Becomes image repaired.file old new) → IsOkAnd R (λ repaired. told ≡ repaired.report)
+    → IsSomeAnd (new image) (λ file. ComesBack original r y (record { file = file; report = told }))
+joined (Ok x) image original y r old new told back becomes same =
+    subst (λ (o : Option (List ℕ)). IsSomeAnd o (λ file. ComesBack original r y (record { file = file; report = told }))) (sym becomes.there)
+    (subst (λ (report : FixReport). ComesBack original r y (record { file = x.file; report = report })) (sym same) back)
+joined (Err why) image original y r old new told back becomes same = absurd back
+
+-- an image that was repaired by an intact error correction file
+pub repaired_comes_back : (original y : List ℕ) (r : ℕ) (cut : Bool) (image : List ℕ) (old new : Files) (told : FixReport) (oe oy : Option (List ℕ))
+    → oe ≡ Some (ecc_file original r) → oy ≡ Some y → IsProtected original r → HasTheOthers original r y
+    → IsOkAnd (fix_answer oe oy cut) (λ repaired. Becomes image repaired.file old new) → IsOkAnd (fix_answer oe oy cut) (λ repaired. told ≡ repaired.report)
+    → IsSomeAnd (new image) (λ file. ComesBack original r y (record { file = file; report = told }))
+repaired_comes_back original y r cut image old new told oe oy e f is others becomes same =
+    joined (fix_answer oe oy cut) image original y r old new told
+    (subst (λ (o : Option (List ℕ)). IsOkAnd (fix_answer o oy cut) (ComesBack original r y)) (sym e)
+    (subst (λ (o : Option (List ℕ)). IsOkAnd (fix_answer (Some (ecc_file original r)) o cut) (ComesBack original r y)) (sym f)
+    (images_come_back original r y cut is others)))
+    becomes same

@@ -1,7 +1,6 @@
 -- What holds of each answer that correcting gives.
-use Rattle.std.proofs.Common.{◌≡◌, ℕ, zero, suc, ◌+◌, ◌-◌, ◌<◌, ◌≤◌, List, [], ◌∷◌, length, map, get_or, refl, sym, ap, ◌∙◌, subst, arith, Bool, true, false, cond, ⊎_elim}
-use Rattle.std.specs.Prelude.{find, Option, Some, None, IsTrue, nat_lt, not, ◌==◌, ◌&&◌}
-use Rattle.std.specs.List.{range_with_len}
+use Rattle.std.proofs.Common.{◌≡◌, ℕ, zero, suc, ◌+◌, ◌-◌, ◌<◌, List, [], ◌∷◌, length, get_or, sym, ap, ◌∙◌, subst, arith, Bool, true, false, cond, ⊎_elim}
+use Rattle.std.specs.Prelude.{find, Option, Some, None, IsTrue, nat_lt, not, ◌==◌}
 use Rattle.std.specs.Option.{option_map_or}
 use Rattle.std.proofs.lemmas.Bool.{cases_eq, cases_lt, false≢true, le-ltb}
 use Rattle.std.proofs.lemmas.List.{get_or_past}

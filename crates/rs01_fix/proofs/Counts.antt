@@ -1,12 +1,12 @@
 -- How many sectors of a layer are erased, counted over all sectors and over the places of the layer.
-use Rattle.std.proofs.Common.{◌≡◌, ℕ, zero, suc, ◌+◌, ◌-◌, ◌*◌, ◌<◌, ◌≤◌, List, [], ◌∷◌, ◌++◌, length, map, get_or, refl, sym, ap, ◌∙◌, arith, Bool, true, false, cond, ltb, eqb, add-one}
-use Rattle.std.specs.Prelude.{◌%◌, ◌==◌, ◌&&◌, count_by, filter, nat_lt}
+use Rattle.std.proofs.Common.{◌≡◌, ℕ, zero, suc, ◌+◌, ◌-◌, ◌*◌, ◌<◌, ◌≤◌, List, length, map, get_or, refl, sym, ap, ◌∙◌, arith, Bool, true, false, cond}
+use Rattle.std.specs.Prelude.{◌%◌, ◌==◌, ◌&&◌, count_by, nat_lt}
 use Rattle.std.specs.List.{range_with_len}
 use Rattle.std.proofs.lemmas.Bool.{lt-ltb, le-ltb, eq-eqb, ne_eqb}
 use Rattle.std.proofs.lemmas.List.FromFn.{get_or-map-range_with_len}
 use Rattle.std.proofs.lemmas.List.Sums.{sum_by-append, sum_by-cons, length-filter}
 use Rattle.std.proofs.lemmas.Nat.{mod-mul-add}
-use Rattle.rs01_layers.specs.Layout.{IsShape, layer_of, layers_of, number_at}
+use Rattle.rs01_layers.specs.Layout.{IsShape, layers_of}
 use Rattle.rs01_layers.proofs.PlaceLemmas.{sectors-le-places}
 use Rattle.rs01_ecchead.specs.Erased.{Known, erased_in, is_erased}
 use Rattle.rs01_ecchead.proofs.Ranges.{range_with_len-append}
@@ -49,12 +49,12 @@ one_of_row : (h : ℕ → Bool) (w l k : ℕ) → l < w
 one_of_row h w l k below =
     let t = λ (s : ℕ). h s && (s % w == l) in
     let other : (s j : ℕ) → s ≡ k * w + j → j < w → (j ≡ l → ⊥) → t s ≡ false = λ s j e fits ne.
-      let rest : s % w ≡ j = ap (λ x. x % w) e ∙ mod-mul-add k w j fits in
-      ap (λ b. h s && b) (ne_eqb (s % w) l (λ same. ne (sym rest ∙ same))) ∙ and_false (h s) in
+    let rest : s % w ≡ j = ap (λ x. x % w) e ∙ mod-mul-add k w j fits in
+    ap (λ b. h s && b) (ne_eqb (s % w) l (λ same. ne (sym rest ∙ same))) ∙ and_false (h s) in
     let hit : t (l + k * w) ≡ h (l + k * w) =
-      let place : l + k * w ≡ k * w + l = omega arith in
-      let rest : (l + k * w) % w ≡ l = ap (λ x. x % w) place ∙ mod-mul-add k w l below in
-      ap (λ b. h (l + k * w) && b) (eq-eqb ((l + k * w) % w) l rest) ∙ and_true (h (l + k * w)) in
+    let place : l + k * w ≡ k * w + l = omega arith in
+    let rest : (l + k * w) % w ≡ l = ap (λ x. x % w) place ∙ mod-mul-add k w l below in
+    ap (λ b. h (l + k * w) && b) (eq-eqb ((l + k * w) % w) l rest) ∙ and_true (h (l + k * w)) in
     let split : w ≡ l + suc (w - l - 1) = omega arith in
     ap (λ n. count_by t (range_with_len (k * w) n)) split
     ∙ count_parts t (k * w) l (suc (w - l - 1))
@@ -67,6 +67,7 @@ one_of_row h w l k below =
     and_false : (b : Bool) → b && false ≡ false
     and_false true = refl
     and_false false = refl
+
     and_true : (b : Bool) → b && true ≡ b
     and_true true = refl
     and_true false = refl
@@ -101,12 +102,12 @@ erased_count known y r l shape below =
     length-filter (λ p. get_or flags p false) (range_with_len 0 (length flags))
     ∙ ap (λ k. count_by (λ p. get_or flags p false) (range_with_len 0 k)) (length-flags_at known y r l)
     ∙ count_same (λ p. get_or flags p false) (λ p. h (l + p * w)) 0 (255 - r)
-      (λ p lp. get_or-map-range_with_len (λ q. h (l + q * w)) 0 (255 - r) (0 + p) (0 + p) false (omega arith) (let z : 0 + (0 + p) ≡ 0 + p = omega arith in z))
+    (λ p lp. get_or-map-range_with_len (λ q. h (l + q * w)) 0 (255 - r) (0 + p) (0 + p) false (omega arith) (let z : 0 + (0 + p) ≡ 0 + p = omega arith in z))
     ∙ sym (by_places h w l (255 - r) below)
     ∙ ap (λ k. count_by (λ s. h s && (s % w == l)) (range_with_len 0 k)) split
     ∙ count_parts (λ s. h s && (s % w == l)) 0 n ((255 - r) * w - n)
     ∙ (λ i. count_same (λ s. h s && (s % w == l)) (λ s. e s && (s % w == l)) 0 n
-          (λ s ls. ap (λ b. (b && e (0 + s)) && ((0 + s) % w == l)) (lt-ltb (0 + s) n (omega arith))) i
-        + count_none (λ s. h s && (s % w == l)) (0 + n) ((255 - r) * w - n)
-          (λ j lj. ap (λ b. (b && e (0 + n + j)) && ((0 + n + j) % w == l)) (le-ltb (0 + n + j) n (omega arith))) i)
+    (λ s ls. ap (λ b. (b && e (0 + s)) && ((0 + s) % w == l)) (lt-ltb (0 + s) n (omega arith))) i
+    + count_none (λ s. h s && (s % w == l)) (0 + n) ((255 - r) * w - n)
+    (λ j lj. ap (λ b. (b && e (0 + n + j)) && ((0 + n + j) % w == l)) (le-ltb (0 + n + j) n (omega arith))) i)
     ∙ (let z : erased_in known y r l + 0 ≡ erased_in known y r l = omega arith in z)

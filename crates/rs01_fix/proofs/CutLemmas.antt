@@ -1,6 +1,6 @@
 -- What the cut of the bytes past the image leaves.
-use Rattle.std.proofs.Common.{◌≡◌, ℕ, ◌<◌, ◌≤◌, List, length, take, refl, sym, ap, ◌∙◌, subst, arith, ◌⊎◌, ⊎_elim, Bool, true, false, inr, inl, get_or}
-use Rattle.std.specs.Prelude.{Option, Some, None, IsSomeAnd, nat_lt, ◌&&◌, min, max}
+use Rattle.std.proofs.Common.{◌≡◌, ℕ, ◌<◌, List, length, take, refl, sym, ap, ◌∙◌, subst, arith, ◌⊎◌, ⊎_elim, Bool, true, false, inr, inl, get_or}
+use Rattle.std.specs.Prelude.{Option, Some, nat_lt, ◌&&◌, min}
 use Rattle.std.specs.Option.{option_map}
 use Rattle.std.proofs.lemmas.Bool.{cases_lt}
 use Rattle.std.proofs.lemmas.List.{get_or-take, length-take}
@@ -10,7 +10,7 @@ use Rattle.rs01_ecchead.specs.Erased.{Known, image_len}
 use Rattle.rs01_fix.specs.Between.{IsBetween}
 use Rattle.rs01_fix.specs.Progress.{IsOnTheWay, HaveBlocks}
 use Rattle.rs01_fix.specs.Repair.{fixed_by}
-use Rattle.rs01_fix.proofs.FixedLemmas.{IsImage, both_parts, fixed_cut, nothing_to_cut, fixed_is, length-fixed_by, surplus_stays}
+use Rattle.rs01_fix.proofs.FixedLemmas.{IsImage, both_parts, fixed_cut, nothing_to_cut, length-fixed_by, surplus_stays}
 use Rattle.rs01_fix.proofs.StandLemmas.{there_ends}
 
 cut_set : (cut : Bool) (b : Bool) → (cut && b) ≡ true → cut ≡ true

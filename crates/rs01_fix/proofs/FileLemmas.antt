@@ -1,12 +1,12 @@
 -- What is answered, from what was found of the two files.
-use Rattle.std.proofs.Common.{◌≡◌, ℕ, ◌≤◌, List, [], length, refl, sym, ap, subst, ◌∙◌, arith, inl, Bool, true, false, drop, take}
+use Rattle.std.proofs.Common.{◌≡◌, ℕ, List, [], length, refl, sym, ap, subst, ◌∙◌, arith, inl, Bool, true, false, drop, take}
 use Rattle.std.specs.Prelude.{Option, Some, None, Result, Ok, Err, IsOkAnd, IsOk, IsSomeAnd, nat_lt, not, ◌==◌, cond}
 use Rattle.std.specs.Option.{option_map, unwrap_or}
 use Rattle.std.specs.Str.{bytes_eq}
 use Rattle.md5.specs.Md5.{md5}
 use Rattle.std.proofs.lemmas.Bool.{eqb-true}
 use Rattle.rs01_layers.specs.Layout.{file_size}
-use Rattle.rs01_outside.specs.Files.{Files, Becomes, SameElsewhere, bytes_of}
+use Rattle.rs01_outside.specs.Files.{Files, Becomes, SameElsewhere}
 use Rattle.rs01_ecchead.specs.Header.{Fields, head_of}
 use Rattle.rs01_ecchead.specs.declared.head.HeadRefusal.{HeadRefusal}
 use Rattle.rs01_ecchead.specs.Opened.{IsOfFile, opened, opened_file, opened_with}

@@ -1,23 +1,23 @@
 -- The fixed file, sector by sector.
-use Rattle.std.proofs.Common.{◌≡◌, ℕ, zero, suc, ◌+◌, ◌-◌, ◌*◌, ◌<◌, ◌≤◌, List, [], ◌++◌, length, take, drop, get_or, refl, sym, ap, ◌∙◌, subst, arith, add-one, append-nil, ⊎_elim, Bool, true, false, cond, ltb, eqb}
-use Rattle.std.specs.Prelude.{max, nat_lt, IsTrue, ◌&&◌, Some}
+use Rattle.std.proofs.Common.{◌≡◌, ℕ, zero, suc, ◌+◌, ◌-◌, ◌*◌, ◌<◌, ◌≤◌, List, [], ◌++◌, length, take, drop, get_or, refl, sym, ap, ◌∙◌, arith, add-one, append-nil, ⊎_elim, Bool, true, false, cond, eqb}
+use Rattle.std.specs.Prelude.{max, nat_lt, ◌&&◌}
 use Rattle.std.specs.List.{flat_map, range_with_len}
-use Rattle.std.proofs.lemmas.Bool.{cases_Bool, cases_lt, cases_eq, lt-ltb, le-ltb, eq-eqb, ne_eqb, cond-true, cond-false}
-use Rattle.std.proofs.lemmas.List.{length-append, length-take, length-drop, get_or_append_left, get_or-append_right, get_or-take, get_or-drop, get_or_past}
+use Rattle.std.proofs.lemmas.Bool.{cases_Bool, cases_lt, lt-ltb, eq-eqb, ne_eqb, cond-true, cond-false}
+use Rattle.std.proofs.lemmas.List.{length-append, length-take, length-drop, get_or_append_left, get_or-append_right, get_or-take, get_or-drop}
 use Rattle.std.proofs.lemmas.List.FromFn.{get_or-map-range_with_len}
 use Rattle.std.proofs.Math.ListN.{drop_of_length-le}
 use Rattle.std.proofs.Math.Seq.{take-append_seam}
-use Rattle.rs01_layers.specs.Sectors.{block, length_of}
-use Rattle.rs01_layers.specs.Layout.{IsShape, layer_of, number_at, place_of, sector_at}
+use Rattle.rs01_layers.specs.Sectors.{length_of}
+use Rattle.rs01_layers.specs.Layout.{IsShape, layer_of, place_of}
 use Rattle.rs01_layers.specs.declared.task.LayerOut.{LayerOut}
-use Rattle.rs01_layers.proofs.BlockLemmas.{length-block, get_or-block}
+use Rattle.rs01_layers.proofs.BlockLemmas.{length-block}
 use Rattle.rs01_layers.proofs.PlaceLemmas.{each_sector_has_a_place, place_determines_sector}
 use Rattle.rs01_sums.specs.Marker.{marker}
 use Rattle.rs01_sums.proofs.MarkerLemmas.{length-marker}
 use Rattle.rs01_ecchead.specs.Erased.{Known, block_in, image_len, is_absent, is_erased}
 use Rattle.rs01_fix.specs.Inputs.{flag_at, flags_at, place_number}
 use Rattle.rs01_fix.specs.Repair.{after_by, bytes_after, fixed_by, image_by, is_mended, is_restored, restored_at}
-use Rattle.rs01_fix.specs.Progress.{HasBlocks, HaveBlocks}
+use Rattle.rs01_fix.specs.Progress.{HaveBlocks}
 use Rattle.rs01_fix.proofs.Numbered.{pieces_more}
 use Rattle.rs01_fix.proofs.InputLemmas.{size_fits}
 use Rattle.rs01_fix.proofs.ProgressLemmas.{Sizes, IsFixed, ends_within}

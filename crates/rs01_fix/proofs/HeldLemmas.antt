@@ -1,9 +1,6 @@
 -- What is known of an image that is held, and steps of answers.
-use Rattle.std.proofs.Common.{◌≡◌, ℕ, ◌+◌, ◌<◌, List, length, map, get_or, ap, ◌∙◌, refl, sym, arith, Bool, true, false}
+use Rattle.std.proofs.Common.{◌≡◌, ap, ◌∙◌, sym, Bool, true, false}
 use Rattle.std.specs.Prelude.{Result, Ok, Err, OnErr, ◌&&◌}
-use Rattle.std.specs.List.{range_with_len}
-use Rattle.std.proofs.lemmas.List.FromFn.{length-range_with_len, get_or-map-range_with_len}
-use Rattle.std.proofs.lemmas.List.{length-map}
 use Rattle.rs01_ecchead.specs.Erased.{known_of}
 use Rattle.rs01_ecchead.specs.declared.opened.Ecc.{Ecc}
 use Rattle.rs01_fix.proofs.FixedLemmas.{IsImage}

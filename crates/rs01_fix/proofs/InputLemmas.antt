@@ -1,14 +1,14 @@
 -- What correcting is given of a layer, by what the code puts together.
-use Rattle.std.proofs.Common.{◌≡◌, ℕ, ◌+◌, ◌-◌, ◌*◌, ◌<◌, ◌≤◌, List, [], ◌∷◌, ◌++◌, length, take, drop, map, get_or, replicate, refl, sym, ap, ◌∙◌, arith, Bool, true, false, cond, ltb, eqb, ⊎_elim}
-use Rattle.std.specs.Prelude.{Option, Some, None, ◌||◌, ◌&&◌, nat_lt, nat_eq, IsTrue}
+use Rattle.std.proofs.Common.{◌≡◌, ℕ, ◌+◌, ◌-◌, ◌*◌, ◌<◌, ◌≤◌, List, [], length, take, drop, map, get_or, replicate, refl, sym, ap, ◌∙◌, arith, Bool, true, false, cond, ltb, eqb, ⊎_elim}
+use Rattle.std.specs.Prelude.{Some, None, ◌||◌, ◌&&◌, nat_lt, nat_eq, IsTrue}
 use Rattle.std.specs.List.{flat_map, range_with_len}
 use Rattle.std.specs.Option.{unwrap_or}
 use Rattle.std.proofs.lemmas.Bool.{lt-ltb, le-ltb, cond-true, cond-false, cases_lt, cases_eq, eq-eqb, ne_eqb}
 use Rattle.std.proofs.lemmas.List.{get_or_past, get_or-take, get_or-drop, length-take, length-drop, length-map}
 use Rattle.std.proofs.lemmas.List.FromFn.{length-range_with_len}
 use Rattle.std.proofs.lemmas.Grind.{same_number_lists}
-use Rattle.rs01_layers.specs.Sectors.{block, length_of, padded}
-use Rattle.rs01_layers.specs.Layout.{number_at, sector_at, parity_offset}
+use Rattle.rs01_layers.specs.Sectors.{length_of, padded}
+use Rattle.rs01_layers.specs.Layout.{number_at, sector_at}
 use Rattle.rs01_layers.specs.Blocks.{blocks_of, is_parity_len}
 use Rattle.rs01_layers.proofs.BlockLemmas.{length-block, length-padded}
 use Rattle.rs01_ecchead.specs.Erased.{Known, block_in, is_erased}

@@ -1,13 +1,13 @@
 -- What correcting gives of the layers of an image whose error correction file is intact.
-use Rattle.std.proofs.Common.{◌≡◌, ℕ, ◌+◌, ◌-◌, ◌*◌, ◌^◌, ◌<◌, ◌≤◌, List, [], length, take, drop, get_or, refl, sym, ap, subst, ◌∙◌, arith, Bool, true, false, cond, ltb, ⊎_elim}
-use Rattle.std.specs.Prelude.{All, nat_lt, ◌&&◌, Some, unwrap_or}
+use Rattle.std.proofs.Common.{◌≡◌, ℕ, ◌+◌, ◌-◌, ◌*◌, ◌^◌, ◌<◌, ◌≤◌, List, [], length, take, drop, get_or, sym, ap, subst, ◌∙◌, arith, true, false, ltb, ⊎_elim}
+use Rattle.std.specs.Prelude.{All, ◌&&◌}
 use Rattle.std.proofs.lemmas.Bool.{cases_lt, false≢true, le-ltb, lt-ltb, cond-true, cond-false}
 use Rattle.std.proofs.lemmas.List.{get_or_past, length-map}
 use Rattle.std.proofs.lemmas.List.Elements.{All-from_get_or, All-get_or}
 use Rattle.std.proofs.lemmas.List.FromFn.{get_or-map-range_with_len, length-range_with_len}
 use Rattle.std.specs.List.{range_with_len}
-use Rattle.rs01_layers.specs.Sectors.{last_of, padded, sector, sectors_of}
-use Rattle.rs01_layers.specs.Layout.{IsShape, layers_of, number_at, parity_offset}
+use Rattle.rs01_layers.specs.Sectors.{padded, sector, sectors_of}
+use Rattle.rs01_layers.specs.Layout.{layers_of, number_at, parity_offset}
 use Rattle.rs01_layers.specs.Layer.{column, layer}
 use Rattle.rs01_layers.specs.Layer as image_layer
 use Rattle.rs01_layers.specs.declared.task.LayerOut.TheVariants.{Beyond, Restored}
@@ -16,7 +16,6 @@ use Rattle.rs01_sums.specs.Crc.{crc}
 use Rattle.rs01_ecchead.specs.EccFile.{ecc_file, layer_parity}
 use Rattle.rs01_ecchead.specs.Erased.{block_in, erased_in, is_erased}
 use Rattle.rs01_ecchead.specs.Header.{part}
-use Rattle.rs01_ecchead.specs.Recorded.{sums_in}
 use Rattle.rs01_ecchead.proofs.ReadAgain.{layer_parity_again, read_again}
 use Rattle.rs01_ecchead.proofs.Flats.{flat_at}
 use Rattle.rs01_poly.proofs.Division.{length-encode}
@@ -53,11 +52,13 @@ byte_at bytes k all =
 
 is_block : (image : List ℕ) (r l p : ℕ) → All (λ b. b < 2 ^ 8) image → IsBlock (image_layer.block_at image r l p)
 is_block image r l p all =
-    let long = length-block_at image r l p in
-    (long, All-from_get_or (λ b. b < 2 ^ 8) (image_layer.block_at image r l p) 0 (λ i inside.
-    let e = get_or-block_at image r l p i (omega (arith, long, inside)) in
-    let byte = byte_at image (2048 * number_at (N image) r l p + i) all in
-    omega (arith, e, byte)))
+    let long = length-block_at image r l p in (
+      long,
+      All-from_get_or (λ b. b < 2 ^ 8) (image_layer.block_at image r l p) 0 (λ i inside.
+          let e = get_or-block_at image r l p i (omega (arith, long, inside)) in
+          let byte = byte_at image (2048 * number_at (N image) r l p + i) all in
+          omega (arith, e, byte)),
+    )
 
 blocks_are : (image : List ℕ) (r l : ℕ) → All (λ b. b < 2 ^ 8) image → All IsBlock (layer image r l)
 blocks_are image r l all =

@@ -1,25 +1,24 @@
 -- What the writes of sectors leave under the image's name.
-use Rattle.std.proofs.Common.{◌≡◌, ℕ, ◌+◌, ◌-◌, ◌*◌, ◌<◌, ◌≤◌, List, [], length, take, get_or, refl, sym, ap, ◌∙◌, subst, arith, ◌⊎◌, inl, inr, ⊎_elim, Bool, true, false}
-use Rattle.std.specs.Prelude.{Option, Some, None, IsSomeAnd, IsTrue, nat_lt, ◌&&◌}
+use Rattle.std.proofs.Common.{◌≡◌, ℕ, ◌+◌, ◌-◌, ◌*◌, ◌<◌, ◌≤◌, List, [], length, take, get_or, sym, ap, ◌∙◌, subst, arith, ◌⊎◌, ⊎_elim, Bool, true, false}
+use Rattle.std.specs.Prelude.{Option, Some, None, nat_lt, ◌&&◌}
 use Rattle.std.specs.Option.{unwrap_or}
-use Rattle.std.proofs.lemmas.Bool.{cases_lt, lt-ltb, le-ltb}
+use Rattle.std.proofs.lemmas.Bool.{cases_lt, lt-ltb}
 use Rattle.std.proofs.lemmas.List.{get_or-take, length-take}
-use Rattle.rs01_layers.specs.Sectors.{block, length_of}
-use Rattle.rs01_layers.specs.Layout.{IsShape, layer_of, layers_of, number_at, place_of, sector_at}
+use Rattle.rs01_layers.specs.Sectors.{length_of}
+use Rattle.rs01_layers.specs.Layout.{IsShape, layers_of, sector_at}
 use Rattle.rs01_layers.specs.declared.task.LayerOut.{LayerOut}
-use Rattle.rs01_layers.proofs.BlockLemmas.{get_or-block, length-block}
+use Rattle.rs01_layers.proofs.BlockLemmas.{get_or-block}
 use Rattle.rs01_layers.proofs.PlaceLemmas.{each_sector_has_one_place}
 use Rattle.rs01_outside.specs.Files.{Files, Becomes, put_at}
-use Rattle.rs01_sums.specs.Marker.{marker}
 use Rattle.rs01_ecchead.specs.Erased.{Known, block_in, image_len, is_absent, is_erased}
 use Rattle.rs01_fix.specs.Between.{IsBetween}
 use Rattle.rs01_fix.specs.Inputs.{flags_at}
-use Rattle.rs01_fix.specs.Progress.{Holds, IsDone, IsAhead, Stands, StandsUnder, IsOnTheWay, HasBlocks, HaveBlocks}
+use Rattle.rs01_fix.specs.Progress.{IsDone, IsAhead, Stands, StandsUnder, IsOnTheWay, HasBlocks, HaveBlocks}
 use Rattle.rs01_fix.specs.Repair.{after_by, fixed_by, is_mended, is_restored, restored_at}
-use Rattle.rs01_fix.proofs.InputLemmas.{some_sector, size_fits}
-use Rattle.rs01_fix.proofs.ProgressLemmas.{Sizes, IsFixed, ends_within, holds_start, holds_less, holds_same, holds_put, holds_between, put_between, holds_end}
+use Rattle.rs01_fix.proofs.InputLemmas.{some_sector}
+use Rattle.rs01_fix.proofs.ProgressLemmas.{ends_within, holds_start, holds_less, holds_same, holds_put, holds_between, put_between, holds_end}
 use Rattle.rs01_fix.proofs.OrderLemmas.{done_more, ahead_less, here_ahead, done_padding, ahead_padding, done_layer, ahead_layer, none_done, all_done, done_or_ahead}
-use Rattle.rs01_fix.proofs.FixedLemmas.{IsImage, both_parts, sizes_of, after-mended, after-absent, after-same, flag_of_sector, mended_parts, length-after, fixed_is, length-fixed_by, surplus_stays}
+use Rattle.rs01_fix.proofs.FixedLemmas.{IsImage, both_parts, sizes_of, after-mended, flag_of_sector, fixed_is, length-fixed_by, surplus_stays}
 
 pub there_ends : (n len : ℕ) → nat_lt n len ≡ false → len ≤ n
 there_ends n len e = ⊎_elim (λ h. absurd (let t = lt-ltb n len h in cc)) (λ h. h) (cases_lt n len)

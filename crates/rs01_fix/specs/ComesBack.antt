@@ -1,6 +1,6 @@
 -- What repairing gives where the error correction file is intact, and no sector that was altered has its recorded
 -- checksum. The image was protected with r parity bytes a codeword, and its file is the list y now.
-use Rattle.std.specs.Prelude.{ℕ, ◌≡◌, ◌≤◌, ◌<◌, ◌*◌, ◌^◌, ◌&&◌, Bool, false, not, nat_lt, All, List, [], length, filter, Option, Some, IsOkAnd}
+use Rattle.std.specs.Prelude.{ℕ, ◌≡◌, ◌≤◌, ◌<◌, ◌*◌, ◌^◌, ◌&&◌, Bool, false, not, nat_lt, All, List, [], length, filter, Some, IsOkAnd}
 use Rattle.std.specs.List.{range_with_len}
 use Rattle.rs01_layers.specs.Sectors.{last_of, length_of, sector, sectors_of}
 use Rattle.rs01_layers.specs.Layout.{layer_of}

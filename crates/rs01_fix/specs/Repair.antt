@@ -1,7 +1,7 @@
 -- What repairing leaves and tells, by the answer to each layer. The image file is the list y, known is what the error
 -- correction file tells of the image, r is the number of parity bytes of a codeword, and answers l is the answer to
 -- layer l.
-use Rattle.std.specs.Prelude.{ℕ, ◌+◌, ◌-◌, ◌*◌, ◌==◌, ◌&&◌, if◌then◌else◌, Bool, true, false, not, nat_lt, List, [], ◌∷◌, ◌++◌, length, take, drop, filter, find, map}
+use Rattle.std.specs.Prelude.{ℕ, ◌-◌, ◌==◌, ◌&&◌, if◌then◌else◌, Bool, true, false, not, nat_lt, List, [], ◌∷◌, ◌++◌, length, take, drop, filter, find}
 use Rattle.std.specs.List.{flat_map, range_with_len}
 use Rattle.std.specs.Option.{option_map_or}
 use Rattle.rs01_layers.specs.Sectors.{length_of}

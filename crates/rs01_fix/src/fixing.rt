@@ -1,5 +1,5 @@
 //! Repairing an image by its error correction file, on one thread.
-ghost use Rattle.std.specs.Prelude.{◌≡◌, ◌≢◌, ◌⊎◌, ◌≤◌, Bool, Err, IfErr, IfOk, IsOk, IsOkAnd, IsTrue, false, OnErr, OnOk, Ok, Some, List, length, ℕ};
+ghost use Rattle.std.specs.Prelude.{◌≡◌, ◌≢◌, ◌⊎◌, ◌≤◌, Bool, Err, IfErr, IfOk, IsOk, IsOkAnd, IsSomeAnd, IsTrue, false, OnErr, OnOk, Ok, Some, List, length, ℕ};
 ghost use Rattle.rs01_layers.specs.Layout.{file_size};
 ghost use Rattle.rs01_outside.specs.Causes.{HasCause, Rose};
 ghost use Rattle.rs01_outside.specs.Files.{Becomes, Cuts, SameElsewhere, bytes_of};
@@ -7,7 +7,9 @@ ghost use Rattle.rs01_ecchead.specs.Head.{fields_of};
 ghost use Rattle.rs01_ecchead.specs.Erased.{image_len, known_of};
 ghost use Rattle.rs01_ecchead.specs.Opened.{opened_file};
 ghost use Rattle.rs01_ecchead.specs.Recorded.{sums_in};
+ghost use Rattle.rs01_ecchead.specs.EccFile.{ecc_file};
 ghost use Rattle.rs01_fix.specs.Answer.{IsOfFiles, MayStand, fix_answer};
+ghost use Rattle.rs01_fix.specs.ComesBack.{ComesBack, HasTheOthers, IsProtected};
 ghost use Rattle.rs01_fix.specs.Inputs.{layer_answer};
 ghost use Rattle.rs01_fix.specs.Progress.{IsOnTheWay};
 ghost use Rattle.rs01_fix.specs.Repair.{fixed_by, report_by};
@@ -151,6 +153,11 @@ pub fn fix_one<D: Desk>(
         (λ repaired. Becomes image.now repaired.file (D.files desk.old) (D.files desk.new))) }
     ensures report { IsTrue (D.tells desk.old) → IfOk result (λ told. IsOkAnd (fix_answer (D.files desk.old ecc.now) (D.files desk.old image.now) cut)
         (λ repaired. told ≡ repaired.report)) }
+
+    // An image comes back where its error correction file is intact.
+    ensures comes_back { (original y : List ℕ) (r : ℕ) → IsTrue (D.tells desk.old) → D.files desk.old ecc.now ≡ Some (ecc_file original r) → D.files desk.old image.now ≡ Some y
+        → IsProtected original r → HasTheOthers original r y
+        → IfOk result (λ told. IsSomeAnd (D.files desk.new image.now) (λ file. ComesBack original r y (record { file = file; report = told }))) }
 
     // The refusals that come from the files, exactly, with no change.
     ensures refused { IsTrue (D.tells desk.old) → IfErr result (λ why. IsOfFiles why → fix_answer (D.files desk.old ecc.now) (D.files desk.old image.now) cut ≡ Err why) }

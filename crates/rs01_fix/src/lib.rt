@@ -5,6 +5,7 @@ mod erased;
 mod fixing;
 mod held;
 mod input;
+pub mod laws;
 mod places;
 mod reading;
 mod refusal;
@@ -13,3 +14,6 @@ mod told;
 
 pub use fixing::fix_one;
 pub use refusal::FixRefusal;
+
+#[cfg(test)]
+mod tests;

@@ -1,4 +1,4 @@
-use Rattle.std.proofs.Common.{◌≡◌, ◌∙◌, ap, refl, sym, arith, length, true, false}
+use Rattle.std.proofs.Common.{◌∙◌, ap, refl, sym, arith}
 use Rattle.std.specs.Prelude.{◌||◌, not}
 use Rattle.rs01_ecchead.specs.Erased.{known_of}
 use Rattle.rs01_sums.specs.Usable.{has_sum}

@@ -4,6 +4,7 @@ use Rattle.rs01_outside.specs.Files.{Files, bytes_of}
 use Rattle.rs01_ecchead.specs.Erased.{known_by, known_of}
 use Rattle.rs01_ecchead.specs.Head.{fields_of}
 use Rattle.rs01_fix.specs.Answer.{repaired}
+use Rattle.rs01_fix.proofs.ComesBack.{repaired_comes_back}
 use Rattle.rs01_fix.proofs.FileLemmas.{by_both, file_done, is_ok_answer, old_may_stand, opened_size, repaired_file, repaired_report, report_done, way_may_stand}
 use Rattle.rs01_fix.proofs.fixing.fix_one.Goals as goal
 
@@ -92,3 +93,8 @@ returns-clause-write_fault_last g c = λ t fault.
     let fields = fields_of held.ecc.head in
     is_ok_answer _ (repaired fields (bytes_of f0 c.args.ecc.now) held.image.items c.args.cut)
     (by_both (f0 c.args.ecc.now) (f0 c.args.image.now) c.args.cut fields held.image.items (c.in-Ok.ensures.opened t) (c.in-Ok.ensures.image t))
+
+pub returns-in-Ok-repair-clause-comes_back : goal.returns-in-Ok-repair-clause-comes_back
+returns-in-Ok-repair-clause-comes_back g c = λ original y r t e f is others.
+    repaired_comes_back original y r c.args.cut c.args.image.now _ _ c.in-Ok-repair.told _ _ e f is others
+    (returns-in-Ok-repair-clause-done g c t) (returns-in-Ok-repair-clause-report g c t)

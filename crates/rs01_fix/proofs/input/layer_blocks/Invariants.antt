@@ -1,4 +1,4 @@
-use Rattle.std.proofs.Common.{◌≡◌, map}
+use Rattle.std.proofs.Common.{◌≡◌}
 use Rattle.std.specs.List.{flat_map, range_with_len}
 use Rattle.rs01_ecchead.specs.Erased.{known_of}
 use Rattle.rs01_fix.specs.Inputs.{block_at}

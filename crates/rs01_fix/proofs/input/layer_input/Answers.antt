@@ -1,4 +1,4 @@
-use Rattle.std.proofs.Common.{◌≡◌, ◌∙◌, ◌-◌, ap, refl, sym, arith, length, subst}
+use Rattle.std.proofs.Common.{◌∙◌, ◌-◌, ap, arith, length}
 use Rattle.rs01_ecchead.specs.Erased.{known_of}
 use Rattle.rs01_fix.specs.Inputs.{block_at}
 use Rattle.rs01_fix.proofs.Numbered.{length-pieces}

@@ -1,4 +1,4 @@
-use Rattle.std.proofs.Common.{◌≡◌, ◌∙◌, sym, arith}
+use Rattle.std.proofs.Common.{◌∙◌, sym, arith}
 use Rattle.rs01_layers.specs.Layout.{sector_at}
 use Rattle.rs01_ecchead.specs.Erased.{known_of}
 use Rattle.rs01_fix.proofs.InputLemmas.{flag_at-sector, flag_at-padding, some_sector}

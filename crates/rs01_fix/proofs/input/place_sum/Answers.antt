@@ -1,4 +1,4 @@
-use Rattle.std.proofs.Common.{◌≡◌, ◌∙◌, ap, refl, get_or}
+use Rattle.std.proofs.Common.{◌∙◌, refl, get_or}
 use Rattle.rs01_layers.specs.Layout.{sector_at}
 use Rattle.rs01_ecchead.specs.Erased.{known_of}
 use Rattle.rs01_fix.proofs.InputLemmas.{sum_at-sector, sum_at-padding}

@@ -1,4 +1,4 @@
-use Rattle.std.proofs.Common.{◌≡◌, ◌∙◌, ◌++◌, ap, refl, sym}
+use Rattle.std.proofs.Common.{◌∙◌, ◌++◌, ap, sym}
 use Rattle.rs01_layers.specs.Layout.{sector_at}
 use Rattle.rs01_layers.specs.Sectors.{block, length_of}
 use Rattle.rs01_ecchead.specs.Erased.{known_of}

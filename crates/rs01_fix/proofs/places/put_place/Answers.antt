@@ -1,4 +1,4 @@
-use Rattle.std.proofs.Common.{◌≡◌, ◌∙◌}
+use Rattle.std.proofs.Common.{◌∙◌}
 use Rattle.rs01_layers.specs.Layout.{sector_at}
 use Rattle.rs01_ecchead.specs.Erased.{known_of}
 use Rattle.rs01_fix.proofs.HeldLemmas.{is_image}

@@ -1,4 +1,4 @@
-use Rattle.std.proofs.Common.{◌≡◌, ◌∙◌, ap, length, sym, true, false}
+use Rattle.std.proofs.Common.{◌∙◌, ap, length, sym}
 use Rattle.rs01_ecchead.specs.Erased.{known_of}
 use Rattle.rs01_sums.proofs.MarkerLemmas.{length-marker}
 use Rattle.rs01_fix.proofs.HeldLemmas.{is_image, on_err}

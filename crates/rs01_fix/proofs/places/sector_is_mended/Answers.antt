@@ -1,4 +1,4 @@
-use Rattle.std.proofs.Common.{◌≡◌, ◌∙◌, sym}
+use Rattle.std.proofs.Common.{◌∙◌, sym}
 use Rattle.rs01_ecchead.specs.Erased.{is_erased, known_of}
 use Rattle.rs01_fix.specs.Repair.{is_restored}
 use Rattle.rs01_fix.proofs.HeldLemmas.{and_true, and_false}

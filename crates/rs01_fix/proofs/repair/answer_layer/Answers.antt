@@ -1,9 +1,6 @@
-use Rattle.std.proofs.Common.{◌≡◌, ◌∙◌, sym, subst, ap, ℕ}
-use Rattle.rs01_layers.specs.declared.task.LayerOut.{LayerOut}
+use Rattle.std.proofs.Common.{◌∙◌}
 use Rattle.rs01_ecchead.specs.Erased.{known_of}
 use Rattle.rs01_erase.specs.Correcting.{blocks_in, correct}
-use Rattle.rs01_fix.specs.Inputs.{flags_at}
-use Rattle.rs01_fix.specs.Progress.{HasBlocks, NamesSector}
 use Rattle.rs01_fix.proofs.InputLemmas.{answer_is}
 use Rattle.rs01_fix.proofs.CorrectLemmas.{correct_blocks, correct_names}
 use Rattle.rs01_fix.proofs.repair.answer_layer.Goals as goal

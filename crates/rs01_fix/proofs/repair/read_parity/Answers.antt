@@ -1,5 +1,4 @@
-use Rattle.std.proofs.Common.{◌≡◌, ◌∙◌, ap, ℕ, ◌*◌, sym}
-use Rattle.rs01_outside.specs.Files.{bytes_of}
+use Rattle.std.proofs.Common.{◌≡◌, ◌∙◌, ap, ◌*◌}
 use Rattle.rs01_layers.specs.Layout.{parity_offset}
 use Rattle.rs01_ecchead.specs.Erased.{known_of}
 use Rattle.rs01_fix.proofs.HeldLemmas.{is_image}

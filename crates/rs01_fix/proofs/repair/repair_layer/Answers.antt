@@ -1,7 +1,6 @@
-use Rattle.std.proofs.Common.{◌≡◌, ◌∙◌, sym, subst, ap, ℕ, List, length}
+use Rattle.std.proofs.Common.{◌∙◌, sym, subst, ap, length}
 use Rattle.std.specs.Prelude.{IsTrue}
-use Rattle.std.specs.Option.{unwrap_or}
-use Rattle.rs01_outside.specs.Files.{Files, bytes_of}
+use Rattle.rs01_outside.specs.Files.{Files}
 use Rattle.rs01_ecchead.specs.Erased.{known_of}
 use Rattle.rs01_fix.specs.Inputs.{layer_answer, parity_at}
 use Rattle.rs01_fix.specs.Progress.{StandsUnder}

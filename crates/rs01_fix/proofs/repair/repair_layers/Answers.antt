@@ -1,9 +1,7 @@
-use Rattle.std.proofs.Common.{◌≡◌, ◌+◌, ◌∙◌, sym, subst, ap, ℕ, List, [], arith, refl}
+use Rattle.std.proofs.Common.{◌≡◌, ◌+◌, ◌∙◌, sym, subst, ap, ℕ, List, [], arith}
 use Rattle.std.specs.Prelude.{IsTrue, Option}
-use Rattle.std.specs.List.{flat_map, range_with_len}
 use Rattle.std.specs.Option.{unwrap_or}
 use Rattle.rs01_layers.specs.Layout.{layers_of}
-use Rattle.rs01_outside.specs.Files.{Files, bytes_of}
 use Rattle.rs01_ecchead.specs.Erased.{known_of}
 use Rattle.rs01_fix.specs.Inputs.{layer_answer}
 use Rattle.rs01_fix.specs.Progress.{StandsUnder}

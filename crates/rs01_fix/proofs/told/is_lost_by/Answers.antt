@@ -1,4 +1,4 @@
-use Rattle.std.proofs.Common.{◌≡◌, ◌∙◌, ap, sym}
+use Rattle.std.proofs.Common.{◌∙◌, ap, sym}
 use Rattle.std.specs.Prelude.{not}
 use Rattle.rs01_ecchead.specs.Erased.{is_erased, known_of}
 use Rattle.rs01_fix.specs.Repair.{is_mended}

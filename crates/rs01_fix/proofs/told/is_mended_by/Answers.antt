@@ -1,4 +1,4 @@
-use Rattle.std.proofs.Common.{◌≡◌, ◌∙◌, ap, sym, get_or, false, arith, ℕ}
+use Rattle.std.proofs.Common.{◌∙◌, ap, sym, get_or, false}
 use Rattle.rs01_layers.specs.Layout.{layer_of, layers_of}
 use Rattle.rs01_ecchead.specs.Erased.{is_erased, known_of}
 use Rattle.rs01_fix.specs.Repair.{is_restored}

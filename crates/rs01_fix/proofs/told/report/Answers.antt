@@ -1,4 +1,4 @@
-use Rattle.std.proofs.Common.{◌≡◌, ◌∙◌, ◌+◌, ◌-◌, ◌*◌, ap, length, ℕ, arith}
+use Rattle.std.proofs.Common.{◌≡◌, ◌∙◌, ◌+◌, ◌-◌, ◌*◌, length, arith}
 use Rattle.rs01_ecchead.specs.Erased.{image_len, known_of}
 use Rattle.rs01_fix.specs.Repair.{report_by}
 use Rattle.rs01_fix.proofs.told.report.Goals as goal

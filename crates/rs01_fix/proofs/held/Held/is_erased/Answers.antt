@@ -1,4 +1,4 @@
-use Rattle.std.proofs.Common.{◌≡◌, ◌∙◌, ◌<◌, ap, length, arith, sym}
+use Rattle.std.proofs.Common.{◌∙◌, arith}
 use Rattle.rs01_ecchead.specs.Erased.{is_erased, known_of}
 use Rattle.rs01_fix.proofs.FlagLemmas.{flag_of, all_flags}
 use Rattle.rs01_fix.proofs.held.Held.is_erased.Goals as goal
