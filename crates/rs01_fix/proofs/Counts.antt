@@ -2,11 +2,11 @@
 use Rattle.std.proofs.Common.{◌≡◌, ℕ, zero, suc, ◌+◌, ◌-◌, ◌*◌, ◌<◌, ◌≤◌, List, length, map, get_or, refl, sym, ap, ◌∙◌, arith, Bool, true, false, cond}
 use Rattle.std.specs.Prelude.{◌%◌, ◌==◌, ◌&&◌, count_by, nat_lt}
 use Rattle.std.specs.List.{range_with_len}
-use Rattle.std.proofs.lemmas.Bool.{lt-ltb, le-ltb, eq-eqb, ne_eqb}
+use Rattle.std.proofs.lemmas.Bool.{lt-ltb, le-ltb, eq-eqb, ne_eqb, false≢true}
 use Rattle.std.proofs.lemmas.List.FromFn.{get_or-map-range_with_len}
 use Rattle.std.proofs.lemmas.List.Sums.{sum_by-append, sum_by-cons, length-filter}
 use Rattle.std.proofs.lemmas.Nat.{mod-mul-add}
-use Rattle.rs01_layers.specs.Layout.{IsShape, layers_of}
+use Rattle.rs01_layers.specs.Layout.{IsShape, layer_of, layers_of}
 use Rattle.rs01_layers.proofs.PlaceLemmas.{sectors-le-places}
 use Rattle.rs01_ecchead.specs.Erased.{Known, erased_in, is_erased}
 use Rattle.rs01_ecchead.proofs.Ranges.{range_with_len-append}
@@ -111,3 +111,36 @@ erased_count known y r l shape below =
     + count_none (λ s. h s && (s % w == l)) (0 + n) ((255 - r) * w - n)
     (λ j lj. ap (λ b. (b && e (0 + n + j)) && ((0 + n + j) % w == l)) (le-ltb (0 + n + j) n (omega arith))) i)
     ∙ (let z : erased_in known y r l + 0 ≡ erased_in known y r l = omega arith in z)
+
+more_or_same : (f g : Bool) (m n : ℕ) → (f ≡ true → g ≡ true) → m ≤ n → cond f 1 0 + m ≤ cond g 1 0 + n
+more_or_same true true m n h l = omega arith
+more_or_same true false m n h l = absurd (false≢true (h refl))
+more_or_same false true m n h l = omega arith
+more_or_same false false m n h l = omega arith
+
+-- a test that passes wherever another does counts no less
+count_less : (f g : ℕ → Bool) (a n : ℕ) → ((j : ℕ) → j < n → f (a + j) ≡ true → g (a + j) ≡ true) → count_by f (range_with_len a n) ≤ count_by g (range_with_len a n)
+count_less f g a zero h = omega arith
+count_less f g a (suc n) h =
+    let here : a + 0 ≡ a = omega arith in
+    let first : f a ≡ true → g a ≡ true = λ e. ap g (sym here) ∙ h 0 (omega arith) (ap f here ∙ e) in
+    let rest = count_less f g (a + 1) n (λ j l e.
+    let place : a + 1 + j ≡ a + suc j = omega arith in
+    ap g place ∙ h (suc j) (omega arith) (ap f (sym place) ∙ e)) in
+    let all = more_or_same (f a) (g a) (count_by f (range_with_len (a + 1) n)) (count_by g (range_with_len (a + 1) n)) first rest in
+    let one = count_first f a n in
+    let other = count_first g a n in
+    omega (arith, all, one, other)
+
+and_kept : (a b c : Bool) → (a ≡ true → b ≡ true) → a && c ≡ true → b && c ≡ true
+and_kept true b true h e = ap (λ x. x && true) (h refl)
+and_kept true b false h e = cc e
+and_kept false b c h e = cc e
+
+-- fewer erased sectors, fewer in each layer
+pub erased_less : (known : Known) (y z : List ℕ) (r l : ℕ) → ((s : ℕ) → s < known.sectors → is_erased known z s ≡ true → is_erased known y s ≡ true)
+    → erased_in known z r l ≤ erased_in known y r l
+unfolding erased_in
+erased_less known y z r l fewer =
+    count_less (λ s. is_erased known z s && (layer_of known.sectors r s == l)) (λ s. is_erased known y s && (layer_of known.sectors r s == l)) 0 known.sectors
+    (λ s below e. and_kept (is_erased known z (0 + s)) (is_erased known y (0 + s)) (layer_of known.sectors r (0 + s) == l) (fewer (0 + s) (omega arith)) e)

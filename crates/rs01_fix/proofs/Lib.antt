@@ -1,6 +1,7 @@
 pub mod Counts
 mod Intact
 mod ComesBack
+mod GoesOn
 mod ErasedLemmas
 mod Numbered
 mod FlagLemmas

@@ -9,6 +9,8 @@ use Rattle.rs01_ecchead.specs.Erased.{Known, block_in, erased_in, is_erased}
 use Rattle.rs01_ecchead.specs.Header.{part}
 use Rattle.rs01_ecchead.specs.Recorded.{sums_in}
 use Rattle.rs01_fix.specs.Answer.{Repaired, fix_answer}
+use Rattle.rs01_fix.specs.Between.{IsBetween}
+use Rattle.rs01_fix.specs.Fixed.{fixed}
 
 -- an image that has an error correction file with r parity bytes a codeword
 pub record IsProtected (image : List ℕ) (r : ℕ) : Type 0 where
@@ -55,3 +57,11 @@ pub record ComesBack (image : List ℕ) (r : ℕ) (y : List ℕ) (repaired : Rep
 abbrev pub ImagesComeBack : Type 0
 ImagesComeBack = (image : List ℕ) (r : ℕ) (y : List ℕ) (cut : Bool) → IsProtected image r → HasTheOthers image r y
     → IsOkAnd (fix_answer (Some (ecc_file image r)) (Some y) cut) (ComesBack image r y)
+
+-- a file z that an interrupted repair of y left, in which each sector that isn't erased is the image's too: a repair of z
+-- gives back the layers that the repair of y would have given back
+abbrev pub RepairGoesOn : Type 0
+RepairGoesOn = (image : List ℕ) (r : ℕ) (y z : List ℕ) (cut again : Bool) → IsProtected image r → HasTheOthers image r y → HasTheOthers image r z
+    → IsBetween y (fixed (known_of_image image r) (ecc_file image r) y r cut) z
+    → IsOkAnd (fix_answer (Some (ecc_file image r)) (Some z) again)
+    (λ repaired. (s : ℕ) → s < sectors_of (length image) → is_beyond image r y s ≡ false → IsSectorOf image repaired.file s)

@@ -379,6 +379,65 @@ fn repaired_images(rt: HostRuntime) -> Result<(), Fail> {
     Ok(())
 }
 
+#[test]
+fn interrupted_creates(rt: HostRuntime) -> Result<(), Fail> {
+    for call in 0..6u64 {
+        for kept in [0u64, 1, 2047] {
+            let mut desk = MemoryDesk::new(rt.alloc());
+            desk.put_file(rt.alloc(), "disc.iso", b"abc")?;
+            desk.fail_call(call);
+            desk.keep_prefix(Some(kept));
+            let want = if call < 2 {
+                "rs01: reading a file failed\n"
+            } else {
+                "rs01: writing a file failed\n"
+            };
+            let ran = puts(rt.alloc(), "create disc.iso disc.ecc", &mut desk, want)?;
+            assert_eq!(rt; ran, (4, true), "call {call}");
+            assert!(rt;
+                desk.file("disc.iso") == Some(b"abc".as_slice()),
+                "call {call}"
+            );
+            desk.fail_call(u64::MAX);
+            let words = words_of(rt.alloc(), "verify disc.iso disc.ecc")?;
+            let mut out = MemorySink::new(rt.alloc());
+            let status = run_one(rt.alloc(), &words, &mut desk, &mut out);
+            // A header has no byte behind its first 2047 that isn't zero, so the file is whole then.
+            let want = if call == 5 && kept == 2047 { 0 } else { 3 };
+            assert_eq!(rt; status, want, "call {call}, {kept} bytes kept");
+        }
+    }
+    Ok(())
+}
+
+#[test]
+fn interrupted_repair(rt: HostRuntime) -> Result<(), Fail> {
+    let mut marked = protected(rt.alloc(), 505_856, 8)?;
+    assert!(rt; mark(rt.alloc(), &mut marked, 10, 17)?);
+    let (Some(image), Some(ecc)) = (marked.file("disc.iso"), marked.file("disc.ecc")) else {
+        return Err(Fail::new("a file isn't there"));
+    };
+    let mut desk = MemoryDesk::new(rt.alloc());
+    desk.put_file(rt.alloc(), "disc.iso", image)?;
+    desk.put_file(rt.alloc(), "disc.ecc", ecc)?;
+    desk.fail_write(2);
+    desk.keep_prefix(Some(100));
+    let line = "fix disc.iso disc.ecc";
+    let ran = puts(rt.alloc(), line, &mut desk, "rs01: writing a file failed\n")?;
+    assert_eq!(rt; ran, (4, true));
+    assert_eq!(rt; size_of(&desk, "disc.iso"), Some(505_856));
+    // The 100 bytes that were kept are all of sector 12 that differs.
+    let want =
+        "fixed disc.iso\nrestored 5: 13-17\nlost 0: none\nstrange layers 0\nsurplus bytes 0\n";
+    let ran = puts(rt.alloc(), line, &mut desk, want)?;
+    assert_eq!(rt; ran, (0, true));
+    let whole = desk
+        .file("disc.iso")
+        .is_some_and(|file| file.iter().all(|byte| *byte == 0));
+    assert!(rt; whole);
+    Ok(())
+}
+
 // A desk that tells nothing, on which each name is an image of one byte more than can be protected.
 #[derive(Drop)]
 struct VastDesk;
