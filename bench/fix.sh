@@ -1,0 +1,85 @@
+#!/bin/sh
+# Times `verify` and `fix` on random images of 4, 16 and 64 MiB in which one sector in twenty, all in a row, is
+# overwritten by zeros, each beside md5sum of the same image in the same run. Each repaired image is compared with the
+# original.
+# Usage: bench/fix.sh [PARITY]
+# PARITY is at least 13, since fewer parity bytes can't restore one sector in twenty.
+# The program is crates/dvdisaster_rs01/out/dvdisaster_rs01, or the one that PROGRAM names.
+top=$(cd "$(dirname "$0")/.." && pwd) || exit 1
+program=${PROGRAM:-$top/crates/dvdisaster_rs01/out/dvdisaster_rs01}
+parity=${1:-32}
+
+if [ ! -x "$program" ]; then
+    echo "The program isn't built: run 'rt run' in crates/dvdisaster_rs01 first."
+    exit 0
+fi
+
+folder=$(mktemp -d) || exit 1
+trap 'rm -rf "$folder"' EXIT
+trap 'exit 1' INT TERM
+original=$folder/original
+damaged=$folder/damaged
+image=$folder/image
+ecc=$folder/ecc
+
+# The time in nanoseconds.
+now() {
+    date +%s%N
+}
+
+# Runs a command that is to end with the first word as its status, on a fresh copy of the damaged image and with its
+# output thrown away, and leaves its time in `took`, in nanoseconds. The best of three runs.
+clock() {
+    wanted=$1
+    shift
+    took=
+    for _ in 1 2 3; do
+        cp "$damaged" "$image" || return 1
+        begin=$(now)
+        "$@" > /dev/null
+        status=$?
+        end=$(now)
+        [ "$status" -eq "$wanted" ] || return 1
+        if [ -z "$took" ] || [ $((end - begin)) -lt "$took" ]; then
+            took=$((end - begin))
+        fi
+    done
+}
+
+# The most memory that a command of the program held on the damaged image, in MiB, where GNU time is there.
+memory() {
+    if [ -x /usr/bin/time ] && /usr/bin/time -v true > /dev/null 2>&1; then
+        cp "$damaged" "$image" || return 1
+        /usr/bin/time -v "$program" "$1" "$image" "$ecc" 2>&1 > /dev/null |
+            awk -F': ' '/Maximum resident/ { printf "%.1f", $2 / 1024 }'
+    else
+        printf 'unknown'
+    fi
+}
+
+# Prints a line of the table: the size, the command, its time, that of md5sum and the memory.
+line() {
+    awk -v m="$1" -v b="$bytes" -v n="$2" -v c="$3" -v d="$4" -v h="$5" 'BEGIN {
+        printf "%4d MiB %8s %9.3f s %8.1f %9.3f s %8.1f %8.1f %12s\n", m, n, c / 1e9, b / (c / 1e3), d / 1e9, b / (d / 1e3), c / d, h
+    }'
+}
+
+echo "parity $parity, $(uname -m), $(nproc 2> /dev/null || echo '?') processors, the best of three runs"
+printf '%8s %8s %11s %8s %11s %8s %8s %12s\n' image command time MB/s md5sum MB/s ratio 'memory MiB'
+for mebibytes in 4 16 64; do
+    bytes=$((mebibytes * 1048576))
+    sectors=$((bytes / 2048))
+    head -c "$bytes" /dev/urandom > "$original" || exit 1
+    "$program" create "$original" "$ecc" --parity "$parity" > /dev/null || { echo "create failed"; exit 1; }
+    cp "$original" "$damaged" || exit 1
+    dd if=/dev/zero of="$damaged" bs=2048 seek=$((sectors / 2)) count=$((sectors / 20)) conv=notrunc 2> /dev/null || exit 1
+    clock 0 md5sum "$image" || { echo "md5sum failed"; exit 1; }
+    digest=$took
+    clock 1 "$program" verify "$image" "$ecc" || { echo "verify failed"; exit 1; }
+    verify=$took
+    clock 0 "$program" fix "$image" "$ecc" || { echo "fix failed"; exit 1; }
+    fix=$took
+    cmp "$original" "$image" || { echo "fix gave another image"; exit 1; }
+    line "$mebibytes" verify "$verify" "$digest" "$(memory verify)"
+    line "$mebibytes" fix "$fix" "$digest" "$(memory fix)"
+done
