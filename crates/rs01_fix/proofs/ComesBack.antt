@@ -60,7 +60,7 @@ layer_below : (image : List ℕ) (r s : ℕ) → IsProtected image r → layer_o
 layer_below image r s is = mod-lt s (some_layer (N image) r (is_image image r is).shape)
 
 mended_is : (image y : List ℕ) (r s : ℕ) → IsProtected image r → HasTheOthers image r y
-    → is_mended (known_of_image image r) y r (answers image r y) s ≡ back.is_lost image r y s && not (is_beyond image r y s)
+    → is_mended (known_of_image image r) y r (answers image r y) s ≡ back.is_gone image r y s && not (is_beyond image r y s)
 unfolding is_mended
 mended_is image y r s is others =
     ap (λ b. is_erased (known_of_image image r) y s && b) (restored_or_not image y r (layer_of (N image) r s) is others (layer_below image r s is))
@@ -71,7 +71,7 @@ and_not_both true false = refl
 and_not_both false b = refl
 
 lost_is : (image y : List ℕ) (r s : ℕ) → IsProtected image r → HasTheOthers image r y
-    → is_lost (known_of_image image r) y r (answers image r y) s ≡ back.is_lost image r y s && is_beyond image r y s
+    → is_lost (known_of_image image r) y r (answers image r y) s ≡ back.is_gone image r y s && is_beyond image r y s
 unfolding is_lost
 lost_is image y r s is others =
     ap (λ b. is_erased (known_of_image image r) y s && not b) (mended_is image y r s is others)

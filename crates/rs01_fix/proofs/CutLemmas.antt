@@ -35,7 +35,7 @@ fixed_between : (y fixed : List ℕ) → IsBetween y fixed fixed
 fixed_between y fixed = record {
   not_shorter = omega arith;
   not_longer = omega arith;
-  below = λ k inside l. inr refl;
+  below = λ k inside l. inr (inside, refl);
   past = λ k inside l. inl refl;
 }
 
@@ -60,7 +60,7 @@ uncut_between known y r answers is blocks =
     record {
       not_shorter = omega arith;
       not_longer = omega arith;
-      below = λ k inside l. ⊎_elim (λ image. inr (byte k image)) (λ past. inl (surplus_stays known y r answers is blocks k past)) (cases_lt k len);
+      below = λ k inside l. ⊎_elim (λ image. inr (let fits : k < length short = omega arith in fits, byte k image)) (λ past. inl (surplus_stays known y r answers is blocks k past)) (cases_lt k len);
       past = λ k inside l. inl (byte k (let image : k < len = omega arith in image));
     }
 

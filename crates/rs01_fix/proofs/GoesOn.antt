@@ -73,7 +73,7 @@ stays known e y z r cut proper way s below there =
     let bytes : (j : ℕ) → j < size → get_or z (2048 * s + j) 0 ≡ get_or y (2048 * s + j) 0 = λ j inside.
     ⊎_elim
     (λ old. old)
-    (λ new. new ∙ fixed.bytes s j below inside ∙ ap (λ xs. get_or xs j 0) untouched ∙ get_or-block y s size j inside)
+    (λ new. new.1 ∙ fixed.bytes s j below inside ∙ ap (λ xs. get_or xs j 0) untouched ∙ get_or-block y s size j inside)
     (way.below (2048 * s + j) (omega arith) (omega arith)) in
     (λ i. (long_is_there known z s size refl also ∙ sym here) i || not (is_usable known.sums s (same_block known y z s long also bytes i)))
     ∙ there

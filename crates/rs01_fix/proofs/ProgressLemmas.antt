@@ -169,7 +169,11 @@ holds_between count len size old after Done Ahead file fixed sizes is total h =
     record {
       not_shorter = omega arith;
       not_longer = omega arith;
-      below = λ k inside l. ⊎_elim (λ image. byte k image) (λ past. inl (h.surplus k past)) (cases_lt k len);
+      below = λ k inside l.
+          ⊎_elim
+          (λ image. ⊎_elim (λ e. inl e) (λ e. inr (let fits : k < length fixed = omega arith in fits, e)) (byte k image))
+          (λ past. inl (h.surplus k past))
+          (cases_lt k len);
       past = λ k inside l.
           let image : k < len = omega arith in
           ⊎_elim (λ e. inr (e ∙ get_or_past old k 0 l)) (λ e. inl e) (byte k image);
@@ -182,7 +186,7 @@ pub put_between : (old fixed file bytes : List ℕ) (at : ℕ) → length old �
 put_between old fixed file bytes at low within same h =
     let long = length-put_at file bytes at in
     let high = h.not_longer in
-    let byte : (k : ℕ) → (get_or (put_at file at bytes) k 0 ≡ get_or file k 0) ⊎ (get_or (put_at file at bytes) k 0 ≡ get_or fixed k 0) =
+    let byte : (k : ℕ) → (get_or (put_at file at bytes) k 0 ≡ get_or file k 0) ⊎ ((k < length fixed) × (get_or (put_at file at bytes) k 0 ≡ get_or fixed k 0)) =
     λ k.
     ⊎_elim
     (λ before. inl (put_at-before file bytes at k before))
@@ -190,7 +194,7 @@ put_between old fixed file bytes at low within same h =
     ⊎_elim
     (λ inside.
     let e : k ≡ at + (k - at) = omega arith in
-    inr ((λ i. get_or (put_at file at bytes) (e i) 0) ∙ put_at-inside file bytes at (k - at) (omega arith) ∙ same (k - at) (omega arith) ∙ (λ i. get_or fixed (sym e i) 0)))
+    inr (let fits : k < length fixed = omega arith in fits, (λ i. get_or (put_at file at bytes) (e i) 0) ∙ put_at-inside file bytes at (k - at) (omega arith) ∙ same (k - at) (omega arith) ∙ (λ i. get_or fixed (sym e i) 0)))
     (λ past. inl (put_at-behind file bytes at k past))
     (cases_lt k (at + length bytes)))
     (cases_lt k at) in
@@ -199,7 +203,7 @@ put_between old fixed file bytes at low within same h =
       not_longer = omega arith;
       below = λ k inside l.
           ⊎_elim
-          (λ e. let there : k < length file = omega arith in ⊎_elim (λ f. inl (e ∙ f)) (λ f. inr (e ∙ f)) (h.below k there l))
+          (λ e. let there : k < length file = omega arith in ⊎_elim (λ f. inl (e ∙ f)) (λ f. inr (f.0, e ∙ f.1)) (h.below k there l))
           (λ e. inr e)
           (byte k);
       past = λ k inside l.
@@ -208,7 +212,7 @@ put_between old fixed file bytes at low within same h =
           (λ there. ⊎_elim (λ f. inl (e ∙ f)) (λ f. inr (e ∙ f)) (h.past k there l))
           (λ gap. inr (e ∙ get_or_past file k 0 gap))
           (cases_lt k (length file)))
-          (λ e. inl e)
+          (λ e. inl e.1)
           (byte k);
     }
 

@@ -54,7 +54,7 @@ IsOfFiles WriteFault = ⊥
 IsOfFiles OutOfMemory = ⊥
 
 -- what may stand under the image's name after any answer: a file between the old one and the fixed one, and the old one
--- where no refusal of the files lets it be repaired
+-- where a refusal of the files keeps it from being repaired
 abbrev pub MayStand : Result Repaired FixRefusal → Option (List ℕ) → Option (List ℕ) → Type 0
 MayStand (Err why) old new = new ≡ old
 MayStand (Ok fixed) old new = IsSomeAnd new (IsBetween (unwrap_or old []) fixed.file)

@@ -29,8 +29,8 @@ known_of_image image r = record {
 }
 
 -- whether a sector is erased
-abbrev pub is_lost : List ℕ → ℕ → List ℕ → ℕ → Bool
-is_lost image r y s = is_erased (known_of_image image r) y s
+abbrev pub is_gone : List ℕ → ℕ → List ℕ → ℕ → Bool
+is_gone image r y s = is_erased (known_of_image image r) y s
 
 -- whether its layer has more erased sectors than a codeword has parity bytes
 abbrev pub is_beyond : List ℕ → ℕ → List ℕ → ℕ → Bool
@@ -38,7 +38,7 @@ is_beyond image r y s = nat_lt r (erased_in (known_of_image image r) y r (layer_
 
 -- each sector that isn't erased is the image's
 abbrev pub HasTheOthers : List ℕ → ℕ → List ℕ → Type 0
-HasTheOthers image r y = (s : ℕ) → s < sectors_of (length image) → is_lost image r y s ≡ false → block_in (known_of_image image r) y s ≡ sector image s
+HasTheOthers image r y = (s : ℕ) → s < sectors_of (length image) → is_gone image r y s ≡ false → block_in (known_of_image image r) y s ≡ sector image s
 
 -- the bytes of a sector are the image's
 abbrev pub IsSectorOf : List ℕ → List ℕ → ℕ → Type 0
@@ -49,8 +49,8 @@ IsSectorOf image file s =
 -- every layer that isn't beyond is the image's again, and exactly the erased sectors of the others are lost
 pub record ComesBack (image : List ℕ) (r : ℕ) (y : List ℕ) (repaired : Repaired) : Type 0 where
   pub sectors : (s : ℕ) → s < sectors_of (length image) → is_beyond image r y s ≡ false → IsSectorOf image repaired.file s
-  pub restored : repaired.report.restored ≡ filter (λ s. is_lost image r y s && not (is_beyond image r y s)) (range_with_len 0 (sectors_of (length image)))
-  pub lost : repaired.report.lost ≡ filter (λ s. is_lost image r y s && is_beyond image r y s) (range_with_len 0 (sectors_of (length image)))
+  pub restored : repaired.report.restored ≡ filter (λ s. is_gone image r y s && not (is_beyond image r y s)) (range_with_len 0 (sectors_of (length image)))
+  pub lost : repaired.report.lost ≡ filter (λ s. is_gone image r y s && is_beyond image r y s) (range_with_len 0 (sectors_of (length image)))
   pub strange : repaired.report.strange ≡ []
 
 -- that is so for every image, redundancy and damage

@@ -1,5 +1,5 @@
 -- The bytes of the report of `fix`, line by line. Each line ends with one newline.
-use Rattle.std.specs.Prelude.{ℕ, if◌then◌else◌, Bool, List, [], ◌∷◌, ◌++◌, length, codes}
+use Rattle.std.specs.Prelude.{ℕ, ◌&&◌, if◌then◌else◌, Bool, nat_lt, List, [], ◌∷◌, ◌++◌, length, codes}
 use Rattle.std.specs.List.{flat_map}
 use Rattle.std.specs.Fmt.{decimal}
 use Rattle.rs01_report.specs.Runs.{list_text}
@@ -33,10 +33,10 @@ strange_line strange = codes "layer " ++ (decimal strange.layer ++ (codes ": " +
 abbrev pub strange_lines : List Strange → List ℕ
 strange_lines layers = strange_count_line (length layers) ++ flat_map strange_line layers
 
--- the surplus, and whether it was cut
+-- the surplus, and whether one above 0 was cut
 abbrev pub left_line : ℕ → Bool → List ℕ
 left_line bytes cut =
-    if cut then codes "surplus bytes " ++ (decimal bytes ++ (codes ", cut" ++ 10 ∷ [])) else surplus_line bytes
+    if cut && nat_lt 0 bytes then codes "surplus bytes " ++ (decimal bytes ++ (codes ", cut" ++ 10 ∷ [])) else surplus_line bytes
 
 -- the report of an image file that was repaired under a name
 abbrev pub fix_lines : FixReport → List ℕ → List ℕ

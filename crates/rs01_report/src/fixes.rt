@@ -168,7 +168,7 @@ fn push_strange_layers(text: &mut String, layers: &[Strange]) -> Result<(), Allo
 fn push_left(text: &mut String, bytes: u64, cut: bool) -> Result<(), AllocError>
     ensures { OnOk result (string_bytes text.new ≡ string_bytes text.old ++ left_line bytes cut) }
 {
-    if cut {
+    if cut && bytes > 0 {
         write!(text, "surplus bytes {bytes}, cut\n")?;
     } else {
         write!(text, "surplus bytes {bytes}\n")?;

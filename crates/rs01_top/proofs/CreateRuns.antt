@@ -27,7 +27,7 @@ pub created : (image ecc : List ℕ) (r : ℕ) (dt ot : Bool) (old new : Files) 
     → IsTold (create_lines report ecc) 0 ot t t' n.puts n.puts' status
     → IsCreateRun image ecc r dt ot old new t t' n status
 created image ecc r dt ot old new t t' n status report accepted done reported reads writes told =
-    settled (CreateAnswer (refusal_of (old image)) image ecc r old new) (MayStandAfterCreate image ecc r old new) ⊥ (IsSome (refusal_of (old image)))
+    settled (CreateAnswer (refusal_of (old image)) image ecc r old new) (MayStandAfterCreate image ecc r old new) ⊥ (IsSome (refusal_of (old image))) (IsSome (refusal_of (old image)))
     dt ot t t' n status (create_lines report ecc) 0 (inl refl)
     (λ d. subst (λ (o : Option CreateRefusal). CreateAnswer o image ecc r old new (create_lines report ecc) 0) (sym (accepted d))
     (record { files = done d; lines = ap (λ (p : CreateReport). create_lines p ecc) (reported d); number_is = refl }))
@@ -44,6 +44,7 @@ pub record NotMade (image ecc : List ℕ) (r : ℕ) (tells : Bool) (old new : Fi
   pub left : IsTrue tells → IsUnfinished (head_bytes (head_fields (bytes_of old image) r)) (old ecc) (new ecc)
   pub read_fault : why ≡ ReadFault → Rose n.reads n.reads'
   pub write_fault : why ≡ WriteFault → Rose n.writes n.writes'
+  pub write_fault_last : IsTrue tells → why ≡ WriteFault → refusal_of (old image) ≡ None
   pub reads : why ≢ ReadFault → n.reads' ≡ n.reads
   pub writes : why ≢ WriteFault → n.writes' ≡ n.writes
 
@@ -54,7 +55,7 @@ of_image : (image ecc : List ℕ) (r : ℕ) (dt ot : Bool) (old new : Files) (t 
 of_image image ecc r dt ot old new t t' n status why of noread nowrite made told =
     let line = fault_line (create_fault why) in
     let same = λ (d : IsTrue dt). made.unchanged d of in
-    settled (CreateAnswer (refusal_of (old image)) image ecc r old new) (MayStandAfterCreate image ecc r old new) ⊥ (IsSome (refusal_of (old image)))
+    settled (CreateAnswer (refusal_of (old image)) image ecc r old new) (MayStandAfterCreate image ecc r old new) ⊥ (IsSome (refusal_of (old image))) (IsSome (refusal_of (old image)))
     dt ot t t' n status line 3 (inr (inr (inr refl)))
     (λ d. subst (λ (o : Option CreateRefusal). CreateAnswer o image ecc r old new line 3) (sym (made.refused d of)) (record { files = same d; line = refl; number_is = refl }))
     (λ d. record { elsewhere = λ other apart. ap (λ (f : Files). f other) (same d); left = inl (inl (ap (λ (f : Files). f ecc) (same d))) })
@@ -72,15 +73,16 @@ not_made image ecc r dt ot old new t t' n status (TooManySectors m) made told =
     of_image image ecc r dt ot old new t t' n status (TooManySectors m) tt (λ e. cc) (λ e. cc) made told
 not_made image ecc r dt ot old new t t' n status (Marker s) made told = of_image image ecc r dt ot old new t t' n status (Marker s) tt (λ e. cc) (λ e. cc) made told
 not_made image ecc r dt ot old new t t' n status ReadFault made told =
-    faulted (CreateAnswer (refusal_of (old image)) image ecc r old new) (MayStandAfterCreate image ecc r old new) ⊥ (IsSome (refusal_of (old image)))
+    faulted (CreateAnswer (refusal_of (old image)) image ecc r old new) (MayStandAfterCreate image ecc r old new) ⊥ (IsSome (refusal_of (old image))) (IsSome (refusal_of (old image)))
     dt ot t t' n status (fault_line fault.ReadFault)
-    (λ d. record { elsewhere = made.elsewhere d; left = inl (made.left d) }) (λ h. h) (inl (made.read_fault refl, refl))
+    (λ d. record { elsewhere = made.elsewhere d; left = inl (made.left d) }) (λ h. h) (inl (made.read_fault refl, refl)) (λ d refused. made.writes (λ e. cc))
     (as_told (fault_line fault.ReadFault) 4 ot t t' n.puts n.puts' status (omega arith) (omega arith) told)
 not_made image ecc r dt ot old new t t' n status WriteFault made told =
-    faulted (CreateAnswer (refusal_of (old image)) image ecc r old new) (MayStandAfterCreate image ecc r old new) ⊥ (IsSome (refusal_of (old image)))
+    faulted (CreateAnswer (refusal_of (old image)) image ecc r old new) (MayStandAfterCreate image ecc r old new) ⊥ (IsSome (refusal_of (old image))) (IsSome (refusal_of (old image)))
     dt ot t t' n status (fault_line fault.WriteFault)
     (λ d. record { elsewhere = made.elsewhere d; left = inl (made.left d) }) (λ h. h) (inr (made.write_fault refl, refl))
+    (λ d some. absurd (let none = made.write_fault_last d refl in cc))
     (as_told (fault_line fault.WriteFault) 4 ot t t' n.puts n.puts' status (omega arith) (omega arith) told)
 not_made image ecc r dt ot old new t t' n status OutOfMemory made told =
-    out_of_memory (CreateAnswer (refusal_of (old image)) image ecc r old new) (MayStandAfterCreate image ecc r old new) ⊥ (IsSome (refusal_of (old image)))
-    dt ot t t' n status (λ d. record { elsewhere = made.elsewhere d; left = inl (made.left d) }) (λ h. h) (told.memory_stays refl) told.prefix
+    out_of_memory (CreateAnswer (refusal_of (old image)) image ecc r old new) (MayStandAfterCreate image ecc r old new) ⊥ (IsSome (refusal_of (old image))) (IsSome (refusal_of (old image)))
+    dt ot t t' n status (λ d. record { elsewhere = made.elsewhere d; left = inl (made.left d) }) (λ h. h) (λ d refused. made.writes (λ e. cc)) (told.memory_stays refl) told.prefix

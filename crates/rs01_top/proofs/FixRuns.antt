@@ -1,6 +1,6 @@
 -- What holds of a run that repairs an image, by how the repair and the telling ended.
 use Rattle.std.proofs.Common.{◌≡◌, ◌≢◌, ◌&&◌, ◌==◌, ℕ, List, refl, sym, ap, subst, arith, ◌⊎◌, inl, inr, if◌then◌else◌, true, false, length}
-use Rattle.std.specs.Prelude.{Bool, IsTrue, IsErr, IsOkAnd, Result, Ok, Err}
+use Rattle.std.specs.Prelude.{Bool, IsTrue, IsErr, IsOk, IsOkAnd, Result, Ok, Err}
 use Rattle.rs01_outside.specs.Causes.{Rose}
 use Rattle.rs01_outside.specs.Files.{Files, Becomes, SameElsewhere}
 use Rattle.rs01_report.specs.declared.faults.Fault.TheVariants as fault
@@ -42,7 +42,7 @@ fixed image ecc cut dt ot old new t t' n status report done reported left reads 
     let range = fixed_range report in
     let answered = λ (d : IsTrue dt). both_hold (fix_answer (old ecc) (old image) cut) (done d) (reported d) in
     settled (FixAnswer (fix_answer (old ecc) (old image) cut) image old new) (MayStandAfterFix (fix_answer (old ecc) (old image) cut) image old new) ⊥
-    (IsErr (fix_answer (old ecc) (old image) cut))
+    (IsErr (fix_answer (old ecc) (old image) cut)) (IsErr (fix_answer (old ecc) (old image) cut))
     dt ot t t' n status (fix_lines report image) (fixed_status report) (settled_range (fixed_status report) range)
     (λ d.
     let x = answered d in
@@ -61,8 +61,13 @@ pub record NotFixed (image ecc : List ℕ) (cut : Bool) (tells : Bool) (old new 
   pub left : IsTrue tells → MayStand (fix_answer (old ecc) (old image) cut) (old image) (new image)
   pub read_fault : why ≡ ReadFault → Rose n.reads n.reads'
   pub write_fault : why ≡ WriteFault → Rose n.writes n.writes'
+  pub write_fault_last : IsTrue tells → why ≡ WriteFault → IsOk (fix_answer (old ecc) (old image) cut)
   pub reads : why ≢ ReadFault → n.reads' ≡ n.reads
   pub writes : why ≢ WriteFault → n.writes' ≡ n.writes
+
+not_both : (r : Result Repaired FixRefusal) → IsOk r → IsErr r → ⊥
+not_both (Ok x) ok err = cc
+not_both (Err why) ok err = cc
 
 stands : (image ecc : List ℕ) (cut : Bool) (dt : Bool) (old new : Files) (n : Counts) (why : FixRefusal) → NotFixed image ecc cut dt old new n why
     → IsTrue dt → MayStandAfterFix (fix_answer (old ecc) (old image) cut) image old new
@@ -75,7 +80,7 @@ of_files : (image ecc : List ℕ) (cut : Bool) (dt ot : Bool) (old new : Files) 
 of_files image ecc cut dt ot old new t t' n status why of noread nowrite made told =
     let line = fault_line (fix_fault why) in
     settled (FixAnswer (fix_answer (old ecc) (old image) cut) image old new) (MayStandAfterFix (fix_answer (old ecc) (old image) cut) image old new) ⊥
-    (IsErr (fix_answer (old ecc) (old image) cut))
+    (IsErr (fix_answer (old ecc) (old image) cut)) (IsErr (fix_answer (old ecc) (old image) cut))
     dt ot t t' n status line 3 (inr (inr (inr refl)))
     (λ d. subst (λ (r : Result Repaired FixRefusal). FixAnswer r image old new line 3) (sym (made.refused d of)) (record { files = made.unchanged d of; line = refl; number_is = refl }))
     (stands image ecc cut dt old new n why made)
@@ -95,15 +100,16 @@ not_fixed image ecc cut dt ot old new t t' n status (Body have want) made told =
     of_files image ecc cut dt ot old new t t' n status (Body have want) tt (λ e. cc) (λ e. cc) made told
 not_fixed image ecc cut dt ot old new t t' n status ReadFault made told =
     faulted (FixAnswer (fix_answer (old ecc) (old image) cut) image old new) (MayStandAfterFix (fix_answer (old ecc) (old image) cut) image old new) ⊥
-    (IsErr (fix_answer (old ecc) (old image) cut))
-    dt ot t t' n status (fault_line fault.ReadFault) (stands image ecc cut dt old new n ReadFault made) (λ h. h) (inl (made.read_fault refl, refl))
+    (IsErr (fix_answer (old ecc) (old image) cut)) (IsErr (fix_answer (old ecc) (old image) cut))
+    dt ot t t' n status (fault_line fault.ReadFault) (stands image ecc cut dt old new n ReadFault made) (λ h. h) (inl (made.read_fault refl, refl)) (λ d refused. made.writes (λ e. cc))
     (as_told (fault_line fault.ReadFault) 4 ot t t' n.puts n.puts' status (omega arith) (omega arith) told)
 not_fixed image ecc cut dt ot old new t t' n status WriteFault made told =
     faulted (FixAnswer (fix_answer (old ecc) (old image) cut) image old new) (MayStandAfterFix (fix_answer (old ecc) (old image) cut) image old new) ⊥
-    (IsErr (fix_answer (old ecc) (old image) cut))
+    (IsErr (fix_answer (old ecc) (old image) cut)) (IsErr (fix_answer (old ecc) (old image) cut))
     dt ot t t' n status (fault_line fault.WriteFault) (stands image ecc cut dt old new n WriteFault made) (λ h. h) (inr (made.write_fault refl, refl))
+    (λ d refused. absurd (not_both (fix_answer (old ecc) (old image) cut) (made.write_fault_last d refl) refused))
     (as_told (fault_line fault.WriteFault) 4 ot t t' n.puts n.puts' status (omega arith) (omega arith) told)
 not_fixed image ecc cut dt ot old new t t' n status OutOfMemory made told =
     out_of_memory (FixAnswer (fix_answer (old ecc) (old image) cut) image old new) (MayStandAfterFix (fix_answer (old ecc) (old image) cut) image old new) ⊥
-    (IsErr (fix_answer (old ecc) (old image) cut))
-    dt ot t t' n status (stands image ecc cut dt old new n OutOfMemory made) (λ h. h) (told.memory_stays refl) told.prefix
+    (IsErr (fix_answer (old ecc) (old image) cut)) (IsErr (fix_answer (old ecc) (old image) cut))
+    dt ot t t' n status (stands image ecc cut dt old new n OutOfMemory made) (λ h. h) (λ d refused. made.writes (λ e. cc)) (told.memory_stays refl) told.prefix

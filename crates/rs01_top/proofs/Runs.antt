@@ -10,7 +10,7 @@ use Rattle.rs01_words.specs.declared.command.Command.TheVariants as command
 use Rattle.rs01_words.specs.declared.fault.WordRefused.{WordRefused}
 use Rattle.rs01_words.specs.Line.{word_at}
 use Rattle.rs01_top.specs.Faults.{word_fault}
-use Rattle.rs01_top.specs.Answer.{AnswerTo, IsNoWork, IsRefusedByFiles, MayStand}
+use Rattle.rs01_top.specs.Answer.{AnswerTo, IsNoWork, IsRefusedByFiles, MayStand, WritesNothing}
 use Rattle.rs01_top.specs.Run.{Counts, IsCreateRun, IsFixRun, IsRun, IsVerifyRun, Telling}
 use Rattle.rs01_top.proofs.RunLemmas.{as_told, settled}
 
@@ -21,7 +21,7 @@ no_work : (asked : Result Command WordRefused) (words : List (List ℕ)) (why : 
     → Telling (fault_line why) 2 ot t t' n.puts n.puts' status
     → IsRun asked words dt ot old old t t' n status
 no_work asked words why dt ot old t t' n status none answer stands allowed reads writes told =
-    settled (AnswerTo asked words old old) (MayStand asked words old old) (IsNoWork asked) (IsRefusedByFiles asked words old)
+    settled (AnswerTo asked words old old) (MayStand asked words old old) (IsNoWork asked) (IsRefusedByFiles asked words old) (WritesNothing asked words old)
     dt ot t t' n status (fault_line why) 2 (inr (inr (inl refl)))
     (λ d. answer) (λ d. stands) (λ h. refl) (λ two. none) (λ d h. absurd (allowed h)) (λ d three. absurd (omega arith))
     reads writes (as_told (fault_line why) 2 ot t t' n.puts n.puts' status (omega arith) (omega arith) told)

@@ -35,7 +35,7 @@ pub checked : (image ecc : List ℕ) (dt ot : Bool) (old new : Files) (t t' : Li
     → IsVerifyRun image ecc dt ot old new t t' n status
 checked image ecc dt ot old new t t' n status report reported same reads writes told =
     let range = checked_range report in
-    settled (VerifyAnswer (verify_answer (old ecc) (old image)) image old new) (new ≡ old) ⊥ (IsErr (verify_answer (old ecc) (old image)))
+    settled (VerifyAnswer (verify_answer (old ecc) (old image)) image old new) (new ≡ old) ⊥ (IsErr (verify_answer (old ecc) (old image))) (Unit {0})
     dt ot t t' n status (verify_lines report image) (checked_status report) (settled_range (checked_status report) range)
     (λ d. subst (λ (r : Result VerifyReport VerifyRefusal). VerifyAnswer r image old new (verify_lines report image) (checked_status report)) (sym (reported d))
     (record { files = same d; lines = refl; number_is = refl }))
@@ -58,7 +58,7 @@ of_files : (image ecc : List ℕ) (dt ot : Bool) (old new : Files) (t t' : List 
     → IsVerifyRun image ecc dt ot old new t t' n status
 of_files image ecc dt ot old new t t' n status why of noread made told =
     let line = fault_line (verify_fault why) in
-    settled (VerifyAnswer (verify_answer (old ecc) (old image)) image old new) (new ≡ old) ⊥ (IsErr (verify_answer (old ecc) (old image)))
+    settled (VerifyAnswer (verify_answer (old ecc) (old image)) image old new) (new ≡ old) ⊥ (IsErr (verify_answer (old ecc) (old image))) (Unit {0})
     dt ot t t' n status line 3 (inr (inr (inr refl)))
     (λ d. subst (λ (r : Result VerifyReport VerifyRefusal). VerifyAnswer r image old new line 3) (sym (made.refused d of)) (record { files = made.unchanged d; line = refl; number_is = refl }))
     made.unchanged
@@ -75,9 +75,9 @@ not_checked image ecc dt ot old new t t' n status (Head why) made told = of_file
 not_checked image ecc dt ot old new t t' n status (Size have want) made told = of_files image ecc dt ot old new t t' n status (Size have want) tt (λ e. cc) made told
 not_checked image ecc dt ot old new t t' n status (Body have want) made told = of_files image ecc dt ot old new t t' n status (Body have want) tt (λ e. cc) made told
 not_checked image ecc dt ot old new t t' n status ReadFault made told =
-    faulted (VerifyAnswer (verify_answer (old ecc) (old image)) image old new) (new ≡ old) ⊥ (IsErr (verify_answer (old ecc) (old image)))
-    dt ot t t' n status (fault_line fault.ReadFault) made.unchanged (λ h. h) (inl (made.read_fault refl, refl))
+    faulted (VerifyAnswer (verify_answer (old ecc) (old image)) image old new) (new ≡ old) ⊥ (IsErr (verify_answer (old ecc) (old image))) (Unit {0})
+    dt ot t t' n status (fault_line fault.ReadFault) made.unchanged (λ h. h) (inl (made.read_fault refl, refl)) (λ d u. made.writes)
     (as_told (fault_line fault.ReadFault) 4 ot t t' n.puts n.puts' status (omega arith) (omega arith) told)
 not_checked image ecc dt ot old new t t' n status OutOfMemory made told =
-    out_of_memory (VerifyAnswer (verify_answer (old ecc) (old image)) image old new) (new ≡ old) ⊥ (IsErr (verify_answer (old ecc) (old image)))
-    dt ot t t' n status made.unchanged (λ h. h) (told.memory_stays refl) told.prefix
+    out_of_memory (VerifyAnswer (verify_answer (old ecc) (old image)) image old new) (new ≡ old) ⊥ (IsErr (verify_answer (old ecc) (old image))) (Unit {0})
+    dt ot t t' n status made.unchanged (λ h. h) (λ d u. made.writes) (told.memory_stays refl) told.prefix

@@ -121,6 +121,17 @@ IsRefusedByFiles (Ok (command.Read image ecc drives adaptive jump tries workers)
 IsRefusedByFiles (Ok (command.Demo number sectors parity lost)) words files = ⊥
 IsRefusedByFiles (Err refused) words files = ⊥
 
+-- words whose work writes no file: it only reads, or the files forbid it
+abbrev pub WritesNothing : Result Command WordRefused → List (List ℕ) → Files → Type 0
+WritesNothing (Ok (command.Create image ecc parity workers)) words files = IsSome (refusal_of (files (word_at words image)))
+WritesNothing (Ok (command.Fix image ecc workers cut)) words files =
+    IsErr (fix_answer (files (word_at words ecc)) (files (word_at words image)) cut)
+WritesNothing (Ok (command.Verify image ecc)) words files = Unit {0}
+WritesNothing (Ok (command.Scan ecc drives)) words files = Unit {0}
+WritesNothing (Ok (command.Read image ecc drives adaptive jump tries workers)) words files = Unit {0}
+WritesNothing (Ok (command.Demo number sectors parity lost)) words files = Unit {0}
+WritesNothing (Err refused) words files = Unit {0}
+
 -- what may stand after a fault or want of memory in `create`: no other file has changed, and the one under ECC is as
 -- before, begun, or whole
 pub record MayStandAfterCreate (image ecc : List ℕ) (r : ℕ) (old new : Files) : Type 0 where

@@ -3,8 +3,8 @@ ghost use Rattle.std.specs.Prelude.{◌≡◌, ◌≢◌, ◌≤◌, ◌⊎◌, 
 ghost use Rattle.rs01_words.specs.Command.{IsWithin, NamesDiffer, words_of};
 ghost use Rattle.rs01_outside.specs.Causes.{Rose};
 ghost use Rattle.rs01_report.specs.Faults.{fault_line};
-ghost use Rattle.rs01_top.specs.Answer.{Answers, IsNoWork, IsRefusedByFiles, MayStand};
-ghost use Rattle.rs01_top.specs.Run.{IsCreateRun, IsFixRun, IsRun, IsSettled, IsVerifyRun, PutsPrefix, Telling, TellsFault};
+ghost use Rattle.rs01_top.specs.Answer.{Answers, IsNoWork, IsRefusedByFiles, MayStand, WritesNothing};
+ghost use Rattle.rs01_top.specs.Run.{IsCreateRun, IsFixRun, IsRun, IsSettled, IsVerifyRun, PutsPrefix, Telling, Tells};
 
 use crate::faults::{
     create_fault, create_status, fix_fault, fix_status, verify_fault, verify_status, word_fault,
@@ -205,7 +205,7 @@ pub fn run_one<D: Desk, S: Sink>(alloc: Global, words: &[String], desk: &mut D, 
     // The files, the bytes put and the status are the sequential answer to words and files.
     ensures answer { IsTrue (D.tells desk.old) → IsSettled result
         → (put : List ℕ) × Answers (map string_bytes words.now) (D.files desk.old) (D.files desk.new) put result
-        × TellsFault (S.tells out.old) put (S.taken out.old) (S.taken out.new) }
+        × Tells (S.tells out.old) put (S.taken out.old) (S.taken out.new) }
     ensures unput { IsTrue (D.tells desk.old) → result ≡ 6 → ¬ Rose (D.read_faults desk.old) (D.read_faults desk.new) → ¬ Rose (D.write_faults desk.old) (D.write_faults desk.new)
         → (put : List ℕ) × (number : ℕ) × Answers (map string_bytes words.now) (D.files desk.old) (D.files desk.new) put number
         × PutsPrefix (S.tells out.old) put (S.taken out.old) (S.taken out.new) }
@@ -221,14 +221,19 @@ pub fn run_one<D: Desk, S: Sink>(alloc: Global, words: &[String], desk: &mut D, 
         → (result ≡ 3) ⊎ (result ≡ 4) ⊎ (result ≡ 6) ⊎ (result ≡ 7) }
     ensures only_refused { IsTrue (D.tells desk.old) → result ≡ 3 → IsRefusedByFiles (words_of (map string_bytes words.now)) (map string_bytes words.now) (D.files desk.old) }
     ensures fault { result ≡ 4
-        → (Rose (D.read_faults desk.old) (D.read_faults desk.new) × TellsFault (S.tells out.old) (fault_line Fault.ReadFault) (S.taken out.old) (S.taken out.new))
-        ⊎ (Rose (D.write_faults desk.old) (D.write_faults desk.new) × TellsFault (S.tells out.old) (fault_line Fault.WriteFault) (S.taken out.old) (S.taken out.new)) }
+        → (Rose (D.read_faults desk.old) (D.read_faults desk.new) × Tells (S.tells out.old) (fault_line Fault.ReadFault) (S.taken out.old) (S.taken out.new))
+        ⊎ (Rose (D.write_faults desk.old) (D.write_faults desk.new) × Tells (S.tells out.old) (fault_line Fault.WriteFault) (S.taken out.old) (S.taken out.new)) }
     ensures output { result ≡ 6 → Rose (S.faults out.old) (S.faults out.new) }
+    ensures no_work_reads { IsNoWork (words_of (map string_bytes words.now)) → D.read_faults desk.new ≡ D.read_faults desk.old }
+    ensures no_work_writes { IsNoWork (words_of (map string_bytes words.now)) → D.write_faults desk.new ≡ D.write_faults desk.old }
+    ensures no_writes { IsTrue (D.tells desk.old) → WritesNothing (words_of (map string_bytes words.now)) (map string_bytes words.now) (D.files desk.old)
+        → D.write_faults desk.new ≡ D.write_faults desk.old }
     ensures memory { result ≡ 7 → PutsPrefix (S.tells out.old) (fault_line Fault.OutOfMemory) (S.taken out.old) (S.taken out.new) }
 
     // No fault is passed over.
     ensures quiet_reads { IsSettled result → D.read_faults desk.new ≡ D.read_faults desk.old }
     ensures quiet_writes { IsSettled result → D.write_faults desk.new ≡ D.write_faults desk.old }
+    ensures quiet_put { result ≡ 4 → S.faults out.new ≡ S.faults out.old }
     ensures quiet_output { IsSettled result → S.faults out.new ≡ S.faults out.old }
 {
     answer(alloc, words, desk, out)

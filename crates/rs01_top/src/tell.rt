@@ -5,7 +5,7 @@ ghost use Rattle.rs01_report.specs.Faults.{fault_line};
 ghost use Rattle.rs01_report.specs.FixTexts.{fix_lines};
 ghost use Rattle.rs01_report.specs.Texts.{create_lines, verify_lines};
 ghost use Rattle.rs01_top.specs.Answer.{checked_status, fixed_status, is_match};
-ghost use Rattle.rs01_top.specs.Run.{PutsPrefix, TellsFault};
+ghost use Rattle.rs01_top.specs.Run.{PutsPrefix, Tells};
 
 use rs01_outside::Sink;
 use rs01_report::{
@@ -20,9 +20,9 @@ pub fn tell_fault<S: Sink>(alloc: Global, fault: &Fault, status: u8, out: &mut S
     ensures tells { S.tells out.new ≡ S.tells out.old }
     ensures range { (result ≡ status) ⊎ (result ≡ 6) ⊎ (result ≡ 7) }
     ensures memory_stays { status ≡ 7 → result ≡ 7 }
-    ensures whole { result ≡ status → status ≢ 6 → status ≢ 7 → TellsFault (S.tells out.old) (fault_line fault.now) (S.taken out.old) (S.taken out.new) }
+    ensures whole { result ≡ status → status ≢ 6 → status ≢ 7 → Tells (S.tells out.old) (fault_line fault.now) (S.taken out.old) (S.taken out.new) }
     ensures prefix { PutsPrefix (S.tells out.old) (fault_line fault.now) (S.taken out.old) (S.taken out.new) }
-    ensures nothing { status ≢ 7 → result ≡ 7 → TellsFault (S.tells out.old) [] (S.taken out.old) (S.taken out.new) }
+    ensures nothing { status ≢ 7 → result ≡ 7 → Tells (S.tells out.old) [] (S.taken out.old) (S.taken out.new) }
     ensures cause { status ≢ 6 → result ≡ 6 → Rose (S.faults out.old) (S.faults out.new) }
     ensures quiet { result ≡ status → status ≢ 6 → status ≢ 7 → S.faults out.new ≡ S.faults out.old }
 {
@@ -37,9 +37,9 @@ pub fn tell_fault<S: Sink>(alloc: Global, fault: &Fault, status: u8, out: &mut S
 pub fn tell_created<S: Sink>(alloc: Global, report: &CreateReport, name: &str, out: &mut S) -> u8
     ensures tells { S.tells out.new ≡ S.tells out.old }
     ensures range { (result ≡ 0) ⊎ (result ≡ 6) ⊎ (result ≡ 7) }
-    ensures whole { result ≡ 0 → TellsFault (S.tells out.old) (create_lines report.now name.now) (S.taken out.old) (S.taken out.new) }
+    ensures whole { result ≡ 0 → Tells (S.tells out.old) (create_lines report.now name.now) (S.taken out.old) (S.taken out.new) }
     ensures prefix { PutsPrefix (S.tells out.old) (create_lines report.now name.now) (S.taken out.old) (S.taken out.new) }
-    ensures nothing { result ≡ 7 → TellsFault (S.tells out.old) [] (S.taken out.old) (S.taken out.new) }
+    ensures nothing { result ≡ 7 → Tells (S.tells out.old) [] (S.taken out.old) (S.taken out.new) }
     ensures cause { result ≡ 6 → Rose (S.faults out.old) (S.faults out.new) }
     ensures quiet { result ≡ 0 → S.faults out.new ≡ S.faults out.old }
 {
@@ -78,9 +78,9 @@ fn checked_status(report: &VerifyReport) -> u8
 pub fn tell_checked<S: Sink>(alloc: Global, report: &VerifyReport, name: &str, out: &mut S) -> u8
     ensures tells { S.tells out.new ≡ S.tells out.old }
     ensures range { (result ≡ checked_status report.now) ⊎ (result ≡ 6) ⊎ (result ≡ 7) }
-    ensures whole { result ≡ checked_status report.now → TellsFault (S.tells out.old) (verify_lines report.now name.now) (S.taken out.old) (S.taken out.new) }
+    ensures whole { result ≡ checked_status report.now → Tells (S.tells out.old) (verify_lines report.now name.now) (S.taken out.old) (S.taken out.new) }
     ensures prefix { PutsPrefix (S.tells out.old) (verify_lines report.now name.now) (S.taken out.old) (S.taken out.new) }
-    ensures nothing { result ≡ 7 → TellsFault (S.tells out.old) [] (S.taken out.old) (S.taken out.new) }
+    ensures nothing { result ≡ 7 → Tells (S.tells out.old) [] (S.taken out.old) (S.taken out.new) }
     ensures cause { result ≡ 6 → Rose (S.faults out.old) (S.faults out.new) }
     ensures quiet { result ≡ checked_status report.now → S.faults out.new ≡ S.faults out.old }
 {
@@ -104,9 +104,9 @@ fn fixed_status(report: &FixReport) -> u8
 pub fn tell_fixed<S: Sink>(alloc: Global, report: &FixReport, name: &str, out: &mut S) -> u8
     ensures tells { S.tells out.new ≡ S.tells out.old }
     ensures range { (result ≡ fixed_status report.now) ⊎ (result ≡ 6) ⊎ (result ≡ 7) }
-    ensures whole { result ≡ fixed_status report.now → TellsFault (S.tells out.old) (fix_lines report.now name.now) (S.taken out.old) (S.taken out.new) }
+    ensures whole { result ≡ fixed_status report.now → Tells (S.tells out.old) (fix_lines report.now name.now) (S.taken out.old) (S.taken out.new) }
     ensures prefix { PutsPrefix (S.tells out.old) (fix_lines report.now name.now) (S.taken out.old) (S.taken out.new) }
-    ensures nothing { result ≡ 7 → TellsFault (S.tells out.old) [] (S.taken out.old) (S.taken out.new) }
+    ensures nothing { result ≡ 7 → Tells (S.tells out.old) [] (S.taken out.old) (S.taken out.new) }
     ensures cause { result ≡ 6 → Rose (S.faults out.old) (S.faults out.new) }
     ensures quiet { result ≡ fixed_status report.now → S.faults out.new ≡ S.faults out.old }
 {

@@ -28,6 +28,7 @@ returns-in-Err-clause-run g c =
       left = λ d. c.in-Err.ensures.left d;
       read_fault = λ e. c.in-Err.ensures.read_fault (ap (λ (w : FixRefusal). Err w) e);
       write_fault = λ e. c.in-Err.ensures.write_fault (ap (λ (w : FixRefusal). Err w) e);
+      write_fault_last = λ d e. c.in-Err.ensures.write_fault_last d (ap (λ (w : FixRefusal). Err w) e);
       reads = λ ne. c.in-Err.ensures.reads (λ e. ne cc);
       writes = λ ne. c.in-Err.ensures.writes (λ e. ne cc);
     })
