@@ -4,28 +4,12 @@
 # original.
 # Usage: bench/fix.sh [PARITY]
 # PARITY is at least 13, since fewer parity bytes can't restore one sector in twenty.
-# The program is crates/dvdisaster_rs01/out/dvdisaster_rs01, or the one that PROGRAM names.
-top=$(cd "$(dirname "$0")/.." && pwd) || exit 1
-program=${PROGRAM:-$top/crates/dvdisaster_rs01/out/dvdisaster_rs01}
+. "$(dirname "$0")/common.sh"
 parity=${1:-32}
-
-if [ ! -x "$program" ]; then
-    echo "The program isn't built: run 'rt run' in crates/dvdisaster_rs01 first."
-    exit 0
-fi
-
-folder=$(mktemp -d) || exit 1
-trap 'rm -rf "$folder"' EXIT
-trap 'exit 1' INT TERM
 original=$folder/original
 damaged=$folder/damaged
 image=$folder/image
 ecc=$folder/ecc
-
-# The time in nanoseconds.
-now() {
-    date +%s%N
-}
 
 # Runs a command that is to end with the first word as its status, on a fresh copy of the damaged image and with its
 # output thrown away, and leaves its time in `took`, in nanoseconds. The best of three runs.
@@ -46,15 +30,10 @@ clock() {
     done
 }
 
-# The most memory that a command of the program held on the damaged image, in MiB, where GNU time is there.
+# The most memory that a command of the program held on the damaged image, in MiB.
 memory() {
-    if [ -x /usr/bin/time ] && /usr/bin/time -v true > /dev/null 2>&1; then
-        cp "$damaged" "$image" || return 1
-        /usr/bin/time -v "$program" "$1" "$image" "$ecc" 2>&1 > /dev/null |
-            awk -F': ' '/Maximum resident/ { printf "%.1f", $2 / 1024 }'
-    else
-        printf 'unknown'
-    fi
+    cp "$damaged" "$image" || return 1
+    held_by "$program" "$1" "$image" "$ecc"
 }
 
 # Prints a line of the table: the size, the command, its time, that of md5sum and the memory.
