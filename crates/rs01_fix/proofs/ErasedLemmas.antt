@@ -1,9 +1,9 @@
 -- Which sectors are erased, by what the code tests.
-use Rattle.std.proofs.Common.{◌≡◌, ℕ, ◌+◌, ◌*◌, ◌<◌, ◌≤◌, List, length, refl, sym, ap, ◌∙◌, Bool, true, false}
+use Rattle.std.proofs.Common.{◌≡◌, ℕ, ◌+◌, ◌*◌, ◌≤◌, List, length, refl, sym, ap, ◌∙◌, Bool, true, false}
 use Rattle.std.specs.Prelude.{not, ◌&&◌, ◌||◌, Some, nat_lt}
 use Rattle.std.specs.Str.{bytes_eq}
 use Rattle.std.specs.Bool.{Decides}
-use Rattle.std.proofs.lemmas.Bool.{lt-ltb, le-ltb}
+use Rattle.std.proofs.lemmas.Bool.{le-ltb}
 use Rattle.std.proofs.lemmas.Bool.Decides.{same_from_decides}
 use Rattle.std.proofs.lemmas.Slice.Eq.{bytes_eq-Decides}
 use Rattle.rs01_layers.specs.Sectors.{length_of}
@@ -11,12 +11,7 @@ use Rattle.rs01_sums.specs.Marker.{marker}
 use Rattle.rs01_sums.specs.Usable.{has_sum, is_usable}
 use Rattle.rs01_ecchead.specs.Erased.{Known, block_in, is_absent, is_erased}
 
--- a file that ends before the sector does
-pub short_is_absent : (known : Known) (y : List ℕ) (s len : ℕ) → len ≡ length_of known.sectors known.last_bytes s
-    → length y < 2048 * s + len → is_absent known y s ≡ true
-short_is_absent known y s len e h =
-    ap (λ k. nat_lt (length y) (2048 * s + k)) (sym e) ∙ lt-ltb (length y) (2048 * s + len) h
-
+-- a file that reaches to the end of a sector
 pub long_is_there : (known : Known) (y : List ℕ) (s len : ℕ) → len ≡ length_of known.sectors known.last_bytes s
     → 2048 * s + len ≤ length y → is_absent known y s ≡ false
 long_is_there known y s len e h =
@@ -26,16 +21,9 @@ pub absent_is_erased : (known : Known) (y : List ℕ) (s : ℕ) → is_absent kn
 unfolding is_erased
 absent_is_erased known y s e = sym (ap (λ b. b || not (is_usable known.sums s (block_in known y s))) e)
 
-by_tests : (marked right : Bool) → marked || not right ≡ not (not marked && right)
-by_tests true right = refl
-by_tests false right = refl
-
--- a sector that is there, by whether its block is its marker and whether it has the recorded checksum
-pub there_is_erased : (known : Known) (y : List ℕ) (s : ℕ) (list b : List ℕ) (marked right : Bool) → is_absent known y s ≡ false
-    → known.sums ≡ Some list → b ≡ block_in known y s → Decides marked (b ≡ marker s) → right ≡ has_sum list s b
-    → marked || not right ≡ is_erased known y s
+-- a sector that is there, by whether its block is usable
+pub there_is_erased : (known : Known) (y : List ℕ) (s : ℕ) (b : List ℕ) (fit : Bool) → is_absent known y s ≡ false
+    → b ≡ block_in known y s → fit ≡ is_usable known.sums s b → not fit ≡ is_erased known y s
 unfolding is_erased
-there_is_erased known y s list b marked right there sums same decides sum =
-    by_tests marked right
-    ∙ (λ i. not (not (same_from_decides marked (bytes_eq b (marker s)) decides (bytes_eq-Decides b (marker s)) i) && sum i))
-    ∙ (λ i. sym there i || not (is_usable (sym sums i) s (same i)))
+there_is_erased known y s b fit there same usable =
+    ap not (usable ∙ ap (is_usable known.sums s) same) ∙ (λ i. sym there i || not (is_usable known.sums s (block_in known y s)))

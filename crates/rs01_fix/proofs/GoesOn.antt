@@ -1,10 +1,10 @@
 -- A repair that was interrupted goes on from what it left.
-use Rattle.std.proofs.Common.{◌≡◌, ℕ, ◌+◌, ◌-◌, ◌*◌, ◌<◌, ◌≤◌, List, [], length, take, drop, get_or, refl, sym, ap, subst, ◌∙◌, arith, Bool, true, false, ⊎_elim, min}
-use Rattle.std.specs.Prelude.{nat_lt, not, ◌&&◌, ◌||◌, Some, IsOkAnd, Result, Ok, Err}
+use Rattle.std.proofs.Common.{◌≡◌, ℕ, ◌+◌, ◌*◌, ◌<◌, ◌≤◌, List, length, take, drop, get_or, refl, sym, ap, ◌∙◌, arith, Bool, false, ⊎_elim}
+use Rattle.std.specs.Prelude.{not, ◌&&◌, ◌||◌, Some, IsOkAnd, Result, Ok, Err}
 use Rattle.std.proofs.lemmas.Bool.{cases_Bool, cases_lt, false≢true, le-ltb, lt-ltb}
 use Rattle.std.proofs.lemmas.List.{get_or-take, get_or-drop, length-take, length-drop}
 use Rattle.std.proofs.lemmas.Grind.{same_number_lists}
-use Rattle.rs01_layers.specs.Sectors.{block, last_of, length_of, padded, sectors_of}
+use Rattle.rs01_layers.specs.Sectors.{block, length_of, padded}
 use Rattle.rs01_layers.specs.Layout.{layer_of}
 use Rattle.rs01_layers.proofs.BlockLemmas.{get_or-block}
 use Rattle.rs01_sums.specs.Usable.{is_usable}
@@ -12,7 +12,7 @@ use Rattle.rs01_ecchead.specs.EccFile.{ecc_file}
 use Rattle.rs01_ecchead.specs.Erased.{Known, block_in, erased_in, image_len, is_absent, is_erased}
 use Rattle.rs01_fix.specs.Answer.{Repaired, fix_answer}
 use Rattle.rs01_fix.specs.Between.{IsBetween}
-use Rattle.rs01_fix.specs.ComesBack.{ComesBack, HasTheOthers, IsProtected, IsSectorOf, RepairGoesOn, is_beyond, known_of_image}
+use Rattle.rs01_fix.specs.ComesBack.{ComesBack, IsSectorOf, RepairGoesOn, is_beyond, known_of_image}
 use Rattle.rs01_fix.specs.Repair.{after_by, fixed_by, is_mended, is_restored}
 use Rattle.rs01_fix.specs.Inputs.{layer_answer}
 use Rattle.rs01_fix.specs.declared.refusal.FixRefusal.{FixRefusal}

@@ -10,6 +10,7 @@ ghost use Rattle.rs01_fix.specs.Inputs.{flags_at};
 ghost use Rattle.rs01_fix.specs.Progress.{HasBlocks, HaveBlocks, IsOnTheWay, StandsUnder};
 ghost use Rattle.rs01_fix.specs.Repair.{block_of, is_restored, restored_at};
 
+use crate::erased::is_absent_from;
 use crate::held::Held;
 use rs01_layers::{LayerOut, Placed};
 use rs01_outside::{Desk, Failed};
@@ -82,8 +83,7 @@ fn sector_is_absent(held: &Held, sector: u32) -> bool
     requires { sector < held.now.ecc.head.sectors }
     ensures { result ≡ is_absent (known_of held.now.ecc) held.now.image.items sector }
 {
-    let length = held.ecc.extent().length(sector);
-    (held.image.len() as u64) < 2048 * u64::from(sector) + u64::from(length)
+    is_absent_from(held.image.as_slice(), &held.ecc, sector)
 }
 
 // Puts the sector at a place of a layer in place: its restored block, and its marker where it is absent and isn't
