@@ -25,10 +25,10 @@ words_of-some [] n long some =
     cc
 words_of-some (word ∷ rest) n long some = refl
 
-pub enough_sectors : (words : List (List ℕ)) → too_many_lost Demo words ≡ None → plain_number Demo words 3 LOST ≤ plain_number Demo words 1 SECTORS
+pub enough_sectors : (words : List (List ℕ)) → too_many_lost Demo words ≡ None → plain_number Demo words 3 LOST.kind ≤ plain_number Demo words 1 SECTORS.kind
 unfolding too_many_lost
 enough_sectors words none =
-    let test = decided (nat_lt (plain_number Demo words 1 SECTORS) (plain_number Demo words 3 LOST)) (refused OutOfRange (plain_at Demo words 3)) none in
+    let test = decided (nat_lt (plain_number Demo words 1 SECTORS.kind) (plain_number Demo words 3 LOST.kind)) (refused OutOfRange (plain_at Demo words 3)) none in
     grind (arith, nat_tests)
   where
     decided : (b : Bool) (r : WordRefused) → cond b (Some r) None ≡ None → b ≡ false

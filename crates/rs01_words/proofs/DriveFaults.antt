@@ -1,6 +1,6 @@
 -- The drives of words with nothing wrong: not too many, and each has its name.
 use Rattle.std.proofs.Common.{◌≡◌, ◌⊎◌, inl, inr, ℕ, zero, suc, [], ◌∷◌, ◌++◌, ◌+◌, ◌-◌, ◌<◌, ◌≤◌, Bool, true, false, not, ◌&&◌, cond, List, length, sym, ◌∙◌, ap, refl, arith, Some, None, Option}
-use Rattle.std.specs.Prelude.{codes, is_some, nat_lt, ◌==◌}
+use Rattle.std.specs.Prelude.{is_some, nat_lt, ◌==◌}
 use Rattle.std.specs.List.{find, range_with_len}
 use Rattle.std.specs.Option.{option_or}
 use Rattle.std.specs.Str.{bytes_eq}
@@ -14,7 +14,7 @@ use Rattle.rs01_words.specs.declared.table.OptionRule.{OptionRule}
 use Rattle.rs01_words.specs.declared.table.TheConstants.{DRIVE}
 use Rattle.rs01_words.specs.declared.fault.WordFault.{WordFault}
 use Rattle.rs01_words.specs.declared.fault.WordFault.TheVariants.{Repeated, NoValue}
-use Rattle.rs01_words.specs.Table.{option_of}
+use Rattle.rs01_words.specs.Table.{text_of, option_of}
 use Rattle.rs01_words.specs.Line.{word_at, is_option, is_value, is_given, places_below, given_places, kind_at}
 use Rattle.rs01_words.specs.Refusal.{option_fault, value_fault, fault_at, has_fault}
 use Rattle.rs01_words.specs.Command.{AreWithin}
@@ -38,7 +38,7 @@ find_none_at test i n pos less none =
     passes_not false e = refl
 
 -- the rule of `--drive`, where a command has it
-drive_rule : (verb : Verb) → (option_of verb (codes "--drive") ≡ Some DRIVE) ⊎ (option_of verb (codes "--drive") ≡ None)
+drive_rule : (verb : Verb) → (option_of verb (text_of DRIVE.spelling) ≡ Some DRIVE) ⊎ (option_of verb (text_of DRIVE.spelling) ≡ None)
 unfolding option_of
 drive_rule Create = inr refl
 drive_rule Fix = inr refl
@@ -71,17 +71,17 @@ no_fault verb words i clear = none (fault_at verb words i) clear
     none (Some fault) e = cc
 
 -- a drive that is given where nothing is wrong
-pub drive_at : (verb : Verb) (words : List (List ℕ)) (i : ℕ) → None ≡ fault_at verb words i → is_given verb words (codes "--drive") i ≡ true → (length (given_places verb words (codes "--drive") i) ≤ 15) × ((i + 1 == length words) ≡ false)
+pub drive_at : (verb : Verb) (words : List (List ℕ)) (i : ℕ) → None ≡ fault_at verb words i → is_given verb words (text_of DRIVE.spelling) i ≡ true → (length (given_places verb words (text_of DRIVE.spelling) i) ≤ 15) × ((i + 1 == length words) ≡ false)
 unfolding fault_at
 drive_at verb words i none given =
-    let parts = both (is_value verb words i) (bytes_eq (word_at words i) (codes "--drive")) given in
-    let word : word_at words i ≡ codes "--drive" = (bytes_eq-Decides (word_at words i) (codes "--drive")).0 parts.1 in
+    let parts = both (is_value verb words i) (bytes_eq (word_at words i) (text_of DRIVE.spelling)) given in
+    let word : word_at words i ≡ text_of DRIVE.spelling = (bytes_eq-Decides (word_at words i) (text_of DRIVE.spelling)).0 parts.1 in
     let last = i + 1 == length words in
     let as_option : List ℕ → Option WordFault = λ w. option_fault (option_of verb w) (length (given_places verb words w i)) last in
     let as_value = value_fault (kind_at verb words i) (word_at words i) in
     let test : (not (is_value verb words i) && is_option (word_at words i)) ≡ true =
     ap (λ b. not b && is_option (word_at words i)) parts.0 ∙ ap is_option word in
-    drive_fault (option_of verb (codes "--drive")) (length (given_places verb words (codes "--drive") i)) last (drive_rule verb)
+    drive_fault (option_of verb (text_of DRIVE.spelling)) (length (given_places verb words (text_of DRIVE.spelling) i)) last (drive_rule verb)
     (none ∙ ap (λ b. cond b (as_option (word_at words i)) as_value) test ∙ ap as_option word)
   where
     both : (value same : Bool) → (not value && same) ≡ true → (value ≡ false) × (same ≡ true)

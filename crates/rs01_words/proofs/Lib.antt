@@ -1,4 +1,6 @@
+mod Texts
 mod Numbers
+mod Ranges
 mod PlaceLists
 mod Steps
 mod Refusals

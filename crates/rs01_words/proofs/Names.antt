@@ -10,8 +10,7 @@ use Rattle.std.proofs.lemmas.Slice.Eq.{bytes_eq-Decides}
 use Rattle.rs01_words.specs.declared.table.Kind.TheVariants.{Name}
 use Rattle.rs01_words.specs.declared.table.Verb.{Verb}
 use Rattle.rs01_words.specs.declared.table.Verb.TheVariants.{Create, Fix, Verify, Scan, Read, Demo}
-use Rattle.rs01_words.specs.declared.table.TheConstants.{IMAGE_AND_ECC}
-use Rattle.rs01_words.specs.Table.{plain_kinds}
+use Rattle.rs01_words.specs.Table.{plain_kind, needed_of}
 use Rattle.rs01_words.specs.Line.{word_at, is_option, is_value, is_plain, places_below, plain_places, kind_at, value_kind}
 use Rattle.rs01_words.specs.Refusal.{must_differ, clash, repeats_name, plain_at, IsClear}
 use Rattle.rs01_words.specs.Command.{plain_if_any, command_of, NamesDiffer, AreWithin, IsWithin, drives_of}
@@ -79,26 +78,30 @@ neither_of false true e = cc
 neither_of false false e = (refl, refl)
 
 -- what a plain word stands for
-kind_of_plain : (verb : Verb) (words : List (List ℕ)) (i k : ℕ) → is_plain verb words i ≡ true → length (plain_places verb words i) ≡ k → kind_at verb words i ≡ slice_get (plain_kinds verb) k
+kind_of_plain : (verb : Verb) (words : List (List ℕ)) (i k : ℕ) → is_plain verb words i ≡ true → length (plain_places verb words i) ≡ k → kind_at verb words i ≡ plain_kind verb k
 unfolding kind_at
 kind_of_plain verb words i k plain number =
     let parts = neither_of (is_value verb words i) (is_option (word_at words i)) plain in
-    let kind = slice_get (plain_kinds verb) (length (plain_places verb words i)) in
+    let kind = plain_kind verb (length (plain_places verb words i)) in
     ap (λ b. cond b (value_kind verb (word_at words (i - 1))) (cond (is_option (word_at words i)) None kind)) parts.0 ∙
-    ap (λ b. cond b None kind) parts.1 ∙ ap (slice_get (plain_kinds verb)) number
+    ap (λ b. cond b None kind) parts.1 ∙ ap (plain_kind verb) number
 
 none_from : {X : Type 0} (o : Option X) → is_some o ≡ false → o ≡ None
 none_from None e = refl
 none_from (Some x) e = cc
 
+-- the first two plain words of a command are names
+abbrev NamesTwo : Verb → Type 0
+NamesTwo verb = (plain_kind verb 0 ≡ Some Name) × (plain_kind verb 1 ≡ Some Name)
+
 -- the image and its error correction file
-differ : (verb : Verb) (words : List (List ℕ)) → IsClear verb words → plain_kinds verb ≡ IMAGE_AND_ECC → (i j : ℕ) → slice_get (plain_places verb words (length words)) 0 ≡ Some i → slice_get (plain_places verb words (length words)) 1 ≡ Some j → word_at words i ≢ word_at words j
+differ : (verb : Verb) (words : List (List ℕ)) → IsClear verb words → NamesTwo verb → (i j : ℕ) → slice_get (plain_places verb words (length words)) 0 ≡ Some i → slice_get (plain_places verb words (length words)) 1 ≡ Some j → word_at words i ≢ word_at words j
 unfolding plain_places repeats_name clash
 differ verb words clear kinds i j first second same =
     let one = found (is_plain verb words) (length words) 0 i first in
     let two = found (is_plain verb words) (length words) 1 j second in
-    let kind_one : kind_at verb words i ≡ Some Name = kind_of_plain verb words i 0 one.pass one.number ∙ ap (λ ks. slice_get ks 0) kinds in
-    let kind_two : kind_at verb words j ≡ Some Name = kind_of_plain verb words j 1 two.pass two.number ∙ ap (λ ks. slice_get ks 1) kinds in
+    let kind_one : kind_at verb words i ≡ Some Name = kind_of_plain verb words i 0 one.pass one.number ∙ kinds.0 in
+    let kind_two : kind_at verb words j ≡ Some Name = kind_of_plain verb words j 1 two.pass two.number ∙ kinds.1 in
     let unrepeated : repeats_name verb words j ≡ false = find_none_at (repeats_name verb words) j (length words) two.pos two.less clear.distinct in
     let no_clash : clash verb words j i ≡ false =
     find_none_at (clash verb words j) i j one.pos (in_order (is_plain verb words) (length words) i j one two) (none_from (find (clash verb words j) (places_below j)) unrepeated) in
@@ -108,7 +111,7 @@ differ verb words clear kinds i j first second same =
     let equal : text ≡ true = (bytes_eq-Decides (word_at words j) (word_at words i)).1 (sym same) in
     cc
 
-both_differ : (verb : Verb) (words : List (List ℕ)) → IsClear verb words → plain_kinds verb ≡ IMAGE_AND_ECC → 2 ≤ length (plain_places verb words (length words)) → word_at words (plain_at verb words 0) ≢ word_at words (plain_at verb words 1)
+both_differ : (verb : Verb) (words : List (List ℕ)) → IsClear verb words → NamesTwo verb → 2 ≤ length (plain_places verb words (length words)) → word_at words (plain_at verb words 0) ≢ word_at words (plain_at verb words 1)
 both_differ verb words clear kinds two =
     let places = plain_places verb words (length words) in
     let first : slice_get places 0 ≡ Some (get_or places 0 0) = slice_get-get_or places 0 0 (omega arith) in
@@ -117,9 +120,10 @@ both_differ verb words clear kinds two =
 
 -- the names of a command with nothing wrong
 pub names_differ : (verb : Verb) (words : List (List ℕ)) → IsClear verb words → NamesDiffer words (command_of verb words)
-names_differ Create words clear = both_differ Create words clear refl clear.complete
-names_differ Fix words clear = both_differ Fix words clear refl clear.complete
-names_differ Verify words clear = both_differ Verify words clear refl clear.complete
+unfolding plain_kind needed_of
+names_differ Create words clear = both_differ Create words clear (refl, refl) clear.complete
+names_differ Fix words clear = both_differ Fix words clear (refl, refl) clear.complete
+names_differ Verify words clear = both_differ Verify words clear (refl, refl) clear.complete
 names_differ Scan words clear = tt
 names_differ Read words clear = second (plain_if_any Read words 1) refl
   where
@@ -129,7 +133,7 @@ names_differ Read words clear = second (plain_if_any Read words 1) refl
         let places = plain_places Read words (length words) in
         let within = slice_get_within places 1 j is in
         let first : slice_get places 0 ≡ Some (get_or places 0 0) = slice_get-get_or places 0 0 (omega arith) in
-        rw first (differ Read words clear refl _ j first is)
+        rw first (differ Read words clear (refl, refl) _ j first is)
 names_differ Demo words clear = tt
 
 -- the drives of a command are within the words

@@ -1,5 +1,5 @@
 -- The command that the words ask for, or what is wrong with them.
-use Rattle.std.specs.Prelude.{◌≢◌, ◌<◌, ◌≤◌, ◌^◌, ℕ, ◌+◌, List, [], ◌∷◌, Bool, Option, Some, None, Result, Ok, Err, IfSome, is_some, codes, map, length}
+use Rattle.std.specs.Prelude.{◌≢◌, ◌<◌, ◌≤◌, ◌^◌, ℕ, ◌+◌, List, [], ◌∷◌, Bool, Option, Some, None, Result, Ok, Err, IfSome, is_some, map, length}
 use Rattle.std.specs.List.{slice_get}
 use Rattle.std.specs.Option.{option_and_then}
 use Rattle.rs01_words.specs.declared.command.Command.{Command}
@@ -9,8 +9,8 @@ use Rattle.rs01_words.specs.declared.fault.WordRefused.{WordRefused}
 use Rattle.rs01_words.specs.declared.table.Verb.{Verb}
 use Rattle.rs01_words.specs.declared.table.Verb.TheVariants.{Create, Fix, Verify, Scan, Read, Demo}
 use Rattle.rs01_words.specs.declared.table.OptionRule.{OptionRule}
-use Rattle.rs01_words.specs.declared.table.TheConstants.{PARITY, WORKERS, JUMP, TRIES, SEED, SECTORS, PARITY_BYTES, LOST}
-use Rattle.rs01_words.specs.Table.{verb_of}
+use Rattle.rs01_words.specs.declared.table.TheConstants.{PARITY, WORKERS, CUT, DRIVE, ADAPTIVE, JUMP, TRIES, SEED, SECTORS, PARITY_BYTES, LOST}
+use Rattle.rs01_words.specs.Table.{text_of, verb_of}
 use Rattle.rs01_words.specs.Value.{given_number}
 use Rattle.rs01_words.specs.Line.{word_at, plain_places, given_places}
 use Rattle.rs01_words.specs.Refusal.{refused, plain_at, plain_number, refusal_of}
@@ -20,35 +20,35 @@ abbrev pub plain_if_any : Verb → List (List ℕ) → ℕ → Option ℕ
 plain_if_any verb words n = slice_get (plain_places verb words (length words)) n
 
 -- whether an option is given
-abbrev pub has_option : Verb → List (List ℕ) → List ℕ → Bool
-has_option verb words option = is_some (slice_get (given_places verb words option (length words)) 0)
+abbrev pub has_option : Verb → List (List ℕ) → OptionRule → Bool
+has_option verb words rule = is_some (slice_get (given_places verb words (text_of rule.spelling) (length words)) 0)
 
 -- the number of an option: that of its value where it is given, else its default
-unfoldable pub option_number : Verb → List (List ℕ) → List ℕ → OptionRule → ℕ
-option_number verb words option rule =
-    given_number rule (option_and_then (λ i. slice_get words (i + 1)) (slice_get (given_places verb words option (length words)) 0))
+unfoldable pub option_number : Verb → List (List ℕ) → OptionRule → ℕ
+option_number verb words rule =
+    given_number rule (option_and_then (λ i. slice_get words (i + 1)) (slice_get (given_places verb words (text_of rule.spelling) (length words)) 0))
 
 -- the places of the drives' names, in order
 unfoldable pub drive_places : Verb → List (List ℕ) → List ℕ
-drive_places verb words = map (λ i. i + 1) (given_places verb words (codes "--drive") (length words))
+drive_places verb words = map (λ i. i + 1) (given_places verb words (text_of DRIVE.spelling) (length words))
 
 -- what the words of a command ask for, where nothing is wrong with them
 abbrev pub command_of : Verb → List (List ℕ) → Command
 command_of Create words =
     command.Create (plain_at Create words 0) (plain_at Create words 1)
-    (option_number Create words (codes "--parity") PARITY) (option_number Create words (codes "--workers") WORKERS)
+    (option_number Create words PARITY) (option_number Create words WORKERS)
 command_of Fix words =
     command.Fix (plain_at Fix words 0) (plain_at Fix words 1)
-    (option_number Fix words (codes "--workers") WORKERS) (has_option Fix words (codes "--cut"))
+    (option_number Fix words WORKERS) (has_option Fix words CUT)
 command_of Verify words = command.Verify (plain_at Verify words 0) (plain_at Verify words 1)
 command_of Scan words = command.Scan (plain_if_any Scan words 0) (drive_places Scan words)
 command_of Read words =
     command.Read (plain_at Read words 0) (plain_if_any Read words 1) (drive_places Read words)
-    (has_option Read words (codes "--adaptive")) (option_number Read words (codes "--jump") JUMP)
-    (option_number Read words (codes "--tries") TRIES) (option_number Read words (codes "--workers") WORKERS)
+    (has_option Read words ADAPTIVE) (option_number Read words JUMP)
+    (option_number Read words TRIES) (option_number Read words WORKERS)
 command_of Demo words =
-    command.Demo (plain_number Demo words 0 SEED) (plain_number Demo words 1 SECTORS)
-    (plain_number Demo words 2 PARITY_BYTES) (plain_number Demo words 3 LOST)
+    command.Demo (plain_number Demo words 0 SEED.kind) (plain_number Demo words 1 SECTORS.kind)
+    (plain_number Demo words 2 PARITY_BYTES.kind) (plain_number Demo words 3 LOST.kind)
 
 -- the answer to the words of a command, by what is wrong with them
 abbrev pub answer_of : Verb → List (List ℕ) → Option WordRefused → Result Command WordRefused

@@ -1,12 +1,12 @@
 -- What each word of a command line is: an option, the value of the option before it, or a plain word.
 use Rattle.std.specs.Prelude.{ℕ, zero, suc, ◌-◌, List, [], Bool, false, not, ◌&&◌, ◌==◌, nat_lt, Option, None, is_some, slice_index, length, filter, if◌then◌else◌}
-use Rattle.std.specs.List.{slice_index_or, slice_get, range_with_len}
+use Rattle.std.specs.List.{slice_index_or, range_with_len}
 use Rattle.std.specs.Option.{option_and_then}
 use Rattle.std.specs.Str.{bytes_eq}
 use Rattle.rs01_words.specs.declared.table.Kind.{Kind}
 use Rattle.rs01_words.specs.declared.table.Verb.{Verb}
 use Rattle.rs01_words.specs.declared.walk.Before.{Before}
-use Rattle.rs01_words.specs.Table.{option_of, plain_kinds}
+use Rattle.rs01_words.specs.Table.{option_of, plain_kind}
 
 -- the word at a place, and no bytes past the last one
 abbrev pub word_at : List (List ℕ) → ℕ → List ℕ
@@ -51,7 +51,7 @@ unfoldable pub kind_at : Verb → List (List ℕ) → ℕ → Option Kind
 kind_at verb words i =
     if is_value verb words i then value_kind verb (word_at words (i - 1))
     else (if is_option (word_at words i) then None
-    else slice_get (plain_kinds verb) (length (plain_places verb words i)))
+    else plain_kind verb (length (plain_places verb words i)))
 
 -- what the words before a place say of it: whether it is a value, and how many plain words there are
 abbrev pub before_at : Verb → List (List ℕ) → ℕ → Before

@@ -67,7 +67,7 @@ plain_number verb words n kind = number_or kind (kind_low kind) (word_at words (
 -- `demo` is to lose more sectors than it makes
 unfoldable pub too_many_lost : Verb → List (List ℕ) → Option WordRefused
 too_many_lost Demo words =
-    if nat_lt (plain_number Demo words 1 SECTORS) (plain_number Demo words 3 LOST)
+    if nat_lt (plain_number Demo words 1 SECTORS.kind) (plain_number Demo words 3 LOST.kind)
     then Some (refused OutOfRange (plain_at Demo words 3)) else None
 too_many_lost Create words = None
 too_many_lost Fix words = None

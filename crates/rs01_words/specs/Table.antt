@@ -1,56 +1,48 @@
--- The table of the command line: the commands, their plain words and their options.
-use Rattle.std.specs.Prelude.{ℕ, List, [], ◌∷◌, Option, Some, None, codes, if◌then◌else◌}
+-- What the table of the command line says. The table's rows are constants, and the code reads the same ones. Each row is
+-- a pair: a word and what it names, or a command and what it has.
+use Rattle.std.specs.Prelude.{ℕ, ◌==◌, ◌&&◌, List, Bool, true, false, not, Option, option_map, count_by, filter, find, take_while}
+use Rattle.std.specs.List.{slice_get}
 use Rattle.std.specs.Str.{bytes_eq}
 use Rattle.rs01_words.specs.declared.table.Kind.{Kind}
 use Rattle.rs01_words.specs.declared.table.Verb.{Verb}
 use Rattle.rs01_words.specs.declared.table.Verb.TheVariants.{Create, Fix, Verify, Scan, Read, Demo}
 use Rattle.rs01_words.specs.declared.table.OptionRule.{OptionRule}
-use Rattle.rs01_words.specs.declared.table.TheConstants.{PARITY, WORKERS, JUMP, TRIES, DRIVE, SWITCH, IMAGE_AND_ECC, ECC_ALONE, DEMO_NUMBERS}
+use Rattle.rs01_words.specs.declared.table.TheConstants.{PRESETS, COMMANDS, PLAIN_WORDS, OPTIONS}
 
--- what stands in a table of rows beside a word
-abbrev pub look_up : {X : Type 0} → List (List ℕ × X) → List ℕ → Option X
-look_up [] word = None
-look_up (row ∷ rows) word = if bytes_eq word row.0 then Some row.1 else look_up rows word
+-- the letters of a spelling, which end where its zeros begin
+abbrev pub text_of : List ℕ → List ℕ
+text_of spelling = take_while (λ letter. not (letter == 0)) spelling
 
--- the commands
-abbrev pub commands : List (List ℕ × Verb)
-commands =
-    (codes "create", Create) ∷ ((codes "fix", Fix) ∷ ((codes "verify", Verify) ∷
-    ((codes "scan", Scan) ∷ ((codes "read", Read) ∷ ((codes "demo", Demo) ∷ [])))))
+-- whether a word is spelled so
+abbrev pub spells : List ℕ → List ℕ → Bool
+spells spelling word = bytes_eq word (text_of spelling)
 
--- the options of each command
-abbrev pub options_of : Verb → List (List ℕ × OptionRule)
-options_of Create = (codes "--parity", PARITY) ∷ ((codes "--workers", WORKERS) ∷ [])
-options_of Fix = (codes "--workers", WORKERS) ∷ ((codes "--cut", SWITCH) ∷ [])
-options_of Verify = []
-options_of Scan = (codes "--drive", DRIVE) ∷ []
-options_of Read =
-    (codes "--drive", DRIVE) ∷ ((codes "--adaptive", SWITCH) ∷ ((codes "--jump", JUMP) ∷
-    ((codes "--tries", TRIES) ∷ ((codes "--workers", WORKERS) ∷ []))))
-options_of Demo = []
+-- whether two commands are one
+abbrev pub is_same : Verb → Verb → Bool
+is_same Create Create = true
+is_same Fix Fix = true
+is_same Verify Verify = true
+is_same Scan Scan = true
+is_same Read Read = true
+is_same Demo Demo = true
+is_same one other = false
 
--- the plain words of each command, in order
-abbrev pub plain_kinds : Verb → List Kind
-plain_kinds Create = IMAGE_AND_ECC
-plain_kinds Fix = IMAGE_AND_ECC
-plain_kinds Verify = IMAGE_AND_ECC
-plain_kinds Scan = ECC_ALONE
-plain_kinds Read = IMAGE_AND_ECC
-plain_kinds Demo = DEMO_NUMBERS
-
--- how many of its plain words a command needs
-abbrev pub needed_of : Verb → ℕ
-needed_of Create = 2
-needed_of Fix = 2
-needed_of Verify = 2
-needed_of Scan = 0
-needed_of Read = 1
-needed_of Demo = 4
+-- the number of the preset that a word names
+unfoldable pub preset_of : List ℕ → Option ℕ
+preset_of word = option_map (λ row. row.1) (find (λ row. spells row.0 word) PRESETS)
 
 -- the command that a word names
 unfoldable pub verb_of : List ℕ → Option Verb
-verb_of word = look_up commands word
+verb_of word = option_map (λ row. row.1) (find (λ row. spells row.0 word) COMMANDS)
 
 -- the rule of the option that a word names, where the command has it
 unfoldable pub option_of : Verb → List ℕ → Option OptionRule
-option_of verb word = look_up (options_of verb) word
+option_of verb word = option_map (λ row. row.1) (find (λ row. is_same row.0 verb && spells row.1.spelling word) OPTIONS)
+
+-- what the plain word of a command with this number stands for
+unfoldable pub plain_kind : Verb → ℕ → Option Kind
+plain_kind verb n = option_map (λ row. row.1.kind) (slice_get (filter (λ row. is_same row.0 verb) PLAIN_WORDS) n)
+
+-- how many plain words a command needs
+unfoldable pub needed_of : Verb → ℕ
+needed_of verb = count_by (λ row. is_same row.0 verb && row.1.needed) PLAIN_WORDS

@@ -1,12 +1,12 @@
 -- The value that a word stands for, by its kind.
-use Rattle.std.specs.Prelude.{ℕ, ◌+◌, ◌-◌, ◌*◌, List, Bool, true, not, ◌&&◌, ◌==◌, nat_le, Option, Some, None, Result, Ok, Err, codes, fold, length, if◌then◌else◌}
+use Rattle.std.specs.Prelude.{ℕ, ◌+◌, ◌-◌, ◌*◌, List, Bool, true, not, ◌&&◌, ◌==◌, nat_le, Option, Some, None, Result, Ok, Err, option_map, unwrap_or, fold, length, if◌then◌else◌}
 use Rattle.std.specs.List.{list_all}
 use Rattle.std.specs.Result.{result_unwrap_or}
-use Rattle.std.specs.Str.{bytes_eq}
 use Rattle.rs01_words.specs.declared.table.Kind.{Kind}
 use Rattle.rs01_words.specs.declared.table.Kind.TheVariants.{Name, Drive, Number, Parity}
 use Rattle.rs01_words.specs.declared.table.OptionRule.{OptionRule}
-use Rattle.rs01_words.specs.declared.table.TheConstants.{NORMAL, HIGH}
+use Rattle.rs01_words.specs.declared.table.TheConstants.{PRESETS}
+use Rattle.rs01_words.specs.Table.{preset_of}
 use Rattle.rs01_words.specs.declared.fault.WordFault.{WordFault}
 use Rattle.rs01_words.specs.declared.fault.WordFault.TheVariants.{BadNumber, OutOfRange}
 
@@ -37,9 +37,7 @@ abbrev pub value_of : Kind → List ℕ → Result ℕ WordFault
 value_of Name word = Ok 0
 value_of Drive word = Ok 0
 value_of (Number low high) word = number_within low high word
-value_of (Parity low high) word =
-    if bytes_eq word (codes "normal") then Ok NORMAL
-    else (if bytes_eq word (codes "high") then Ok HIGH else number_within low high word)
+value_of (Parity low high) word = unwrap_or (option_map Ok (preset_of word)) (number_within low high word)
 
 -- the least and the greatest number of a kind; a name stands for 0
 abbrev pub kind_low : Kind → ℕ
@@ -54,12 +52,12 @@ kind_high Drive = 0
 kind_high (Number low high) = high
 kind_high (Parity low high) = high
 
--- whether a kind's range has a number, and the presets lie in it
+-- whether a kind's range has a number; that of parity bytes has all presets
 abbrev pub is_sound : Kind → Bool
 is_sound Name = true
 is_sound Drive = true
 is_sound (Number low high) = nat_le low high
-is_sound (Parity low high) = nat_le low NORMAL && nat_le HIGH high
+is_sound (Parity low high) = list_all (λ preset. nat_le low preset.1 && nat_le preset.1 high) PRESETS
 
 -- the number that a word stands for, and the one given for a word that stands for none
 abbrev pub number_or : Kind → ℕ → List ℕ → ℕ

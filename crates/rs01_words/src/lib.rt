@@ -4,6 +4,7 @@
 mod command;
 mod drives;
 mod fault;
+mod look_up;
 mod places;
 mod plain;
 mod read;

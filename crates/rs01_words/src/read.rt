@@ -1,37 +1,41 @@
 //! What the words ask for, where nothing is wrong with them.
-ghost use Rattle.std.specs.Prelude.{◌≡◌, ◌<◌, ◌≤◌, ◌+◌, length, map, string_bytes, IsTrue, IfOk, option_map};
+ghost use Rattle.std.specs.Prelude.{◌≡◌, ◌<◌, ◌≤◌, ◌+◌, ◌&&◌, not, length, map, string_bytes, IsTrue, IfOk, option_map};
 ghost use Rattle.std.specs.List.{slice_get};
 ghost use Rattle.std.specs.Option.{option_and_then};
-ghost use Rattle.rs01_words.specs.Line.{given_places};
+ghost use Rattle.std.specs.Str.{bytes_eq};
+ghost use Rattle.rs01_words.specs.Table.{text_of};
+ghost use Rattle.rs01_words.specs.Line.{word_at, given_places};
 ghost use Rattle.rs01_words.specs.Value.{value_low, value_high, is_sound_rule};
 ghost use Rattle.rs01_words.specs.Refusal.{IsClear};
 ghost use Rattle.rs01_words.specs.Command.{has_option, option_number, drive_places, command_of, words_of, AreWithin, IsWithin, NamesDiffer};
 
 use crate::command::Command;
 use crate::fault::{WordFault, WordRefused};
+use crate::look_up::{text_of, verb_of};
 use crate::places::Places;
 use crate::plain::{plain_at, plain_number};
 use crate::refusal::refusal_of;
 use crate::table::{
-    JUMP, LOST, OptionRule, PARITY, PARITY_BYTES, SECTORS, SEED, TRIES, Verb, WORKERS, verb_of,
+    ADAPTIVE, CUT, DRIVE, JUMP, LOST, OptionRule, PARITY, PARITY_BYTES, SECTORS, SEED, TRIES, Verb,
+    WORKERS,
 };
 use crate::value::given_number;
-use crate::walk::{given_place, is_given, next, plain_place, start, word_at};
+use crate::walk::{Before, given_place, is_given, next, plain_place, start, word_at};
 
 // Whether an option is given.
-fn has_option(verb: Verb, words: &[String], option: &str) -> bool
-    ensures { result ≡ has_option verb (map string_bytes words.now) option.now }
+fn has_option(verb: Verb, words: &[String], rule: OptionRule) -> bool
+    ensures { result ≡ has_option verb (map string_bytes words.now) rule }
 {
-    given_place(verb, words, option, words.len(), 0).is_some()
+    given_place(verb, words, text_of(&rule.spelling), words.len(), 0).is_some()
 }
 
 // The word after the option, where it is given.
-fn option_word<'a>(verb: Verb, words: &'a [String], option: &str) -> Option<&'a str>
+fn option_word<'a>(verb: Verb, words: &'a [String], rule: OptionRule) -> Option<&'a str>
     ensures { option_map (λ x. x.now) result
         ≡ option_and_then (λ i. slice_get (map string_bytes words.now) (i + 1))
-        (slice_get (given_places verb (map string_bytes words.now) option.now (length (map string_bytes words.now))) 0) }
+        (slice_get (given_places verb (map string_bytes words.now) (text_of rule.spelling) (length (map string_bytes words.now))) 0) }
 {
-    match given_place(verb, words, option, words.len(), 0) {
+    match given_place(verb, words, text_of(&rule.spelling), words.len(), 0) {
         None => None,
         Some(place) => match words.get(place + 1) {
             None => None,
@@ -42,13 +46,22 @@ fn option_word<'a>(verb: Verb, words: &'a [String], option: &str) -> Option<&'a 
 
 // The number of an option: that of its value where it is given, else its default.
 #[tactic(auto, unfolding(crate::specs::Command::option_number))]
-fn option_number(verb: Verb, words: &[String], option: &str, rule: OptionRule) -> u64
+fn option_number(verb: Verb, words: &[String], rule: OptionRule) -> u64
     requires { IsTrue (is_sound_rule rule) }
-    ensures value { result ≡ option_number verb (map string_bytes words.now) option.now rule }
+    ensures value { result ≡ option_number verb (map string_bytes words.now) rule }
     ensures low { value_low rule.value ≤ result }
     ensures high { result ≤ value_high rule.value }
 {
-    given_number(rule, option_word(verb, words, option))
+    given_number(rule, option_word(verb, words, rule))
+}
+
+// Whether a drive is given at a place.
+fn is_drive(words: &[String], place: usize, before: Before) -> bool
+    requires { place < length words.now }
+    ensures { result
+        ≡ (not before.is_value && bytes_eq (word_at (map string_bytes words.now) place) (text_of DRIVE.spelling)) }
+{
+    is_given(words, text_of(&DRIVE.spelling), place, before)
 }
 
 // The places of the drives' names, in order.
@@ -61,7 +74,7 @@ fn drives(verb: Verb, words: &[String]) -> Places
     let mut drives = Places::new();
     let mut before = start();
     for place in 1..words.len() {
-        if is_given(words, "--drive", place, before) {
+        if is_drive(words, place, before) {
             drives.push(place + 1);
         }
         before = next(verb, words, place, before);
@@ -100,8 +113,8 @@ fn create(words: &[String]) -> Command
     Command::Create {
         image: plain_at(Verb::Create, words, 0),
         ecc: plain_at(Verb::Create, words, 1),
-        parity: option_number(Verb::Create, words, "--parity", PARITY) as u32,
-        workers: option_number(Verb::Create, words, "--workers", WORKERS) as u32,
+        parity: option_number(Verb::Create, words, PARITY) as u32,
+        workers: option_number(Verb::Create, words, WORKERS) as u32,
     }
 }
 
@@ -113,8 +126,8 @@ fn fix(words: &[String]) -> Command
     Command::Fix {
         image: plain_at(Verb::Fix, words, 0),
         ecc: plain_at(Verb::Fix, words, 1),
-        workers: option_number(Verb::Fix, words, "--workers", WORKERS) as u32,
-        cut: has_option(Verb::Fix, words, "--cut"),
+        workers: option_number(Verb::Fix, words, WORKERS) as u32,
+        cut: has_option(Verb::Fix, words, CUT),
     }
 }
 
@@ -128,10 +141,10 @@ fn read(words: &[String]) -> Command
         image: plain_at(Verb::Read, words, 0),
         ecc: plain_place(Verb::Read, words, 1),
         drives: drives(Verb::Read, words),
-        adaptive: has_option(Verb::Read, words, "--adaptive"),
-        jump: option_number(Verb::Read, words, "--jump", JUMP) as u32,
-        tries: option_number(Verb::Read, words, "--tries", TRIES) as u32,
-        workers: option_number(Verb::Read, words, "--workers", WORKERS) as u32,
+        adaptive: has_option(Verb::Read, words, ADAPTIVE),
+        jump: option_number(Verb::Read, words, JUMP) as u32,
+        tries: option_number(Verb::Read, words, TRIES) as u32,
+        workers: option_number(Verb::Read, words, WORKERS) as u32,
     }
 }
 
@@ -142,10 +155,10 @@ fn demo(words: &[String]) -> Command
     ensures within { IsWithin (length words.now) result }
 {
     Command::Demo {
-        number: plain_number(Verb::Demo, words, 0, SEED),
-        sectors: plain_number(Verb::Demo, words, 1, SECTORS) as u32,
-        parity: plain_number(Verb::Demo, words, 2, PARITY_BYTES) as u32,
-        lost: plain_number(Verb::Demo, words, 3, LOST) as u32,
+        number: plain_number(Verb::Demo, words, 0, SEED.kind),
+        sectors: plain_number(Verb::Demo, words, 1, SECTORS.kind) as u32,
+        parity: plain_number(Verb::Demo, words, 2, PARITY_BYTES.kind) as u32,
+        lost: plain_number(Verb::Demo, words, 3, LOST.kind) as u32,
     }
 }
 

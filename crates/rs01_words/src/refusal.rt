@@ -7,8 +7,9 @@ ghost use Rattle.rs01_words.specs.Line.{word_at, kind_at, given_places, plain_pl
 ghost use Rattle.rs01_words.specs.Refusal.{option_fault, value_fault, fault_at, has_fault, first_fault, missing_word, too_many_lost, must_differ, clash, repeats_name, same_name, refusal_of, IsClear};
 
 use crate::fault::{WordFault, WordRefused};
+use crate::look_up::{needed_of, option_of};
 use crate::plain::{plain_at, plain_number};
-use crate::table::{Kind, LOST, SECTORS, Verb, needed_of, option_of};
+use crate::table::{Kind, LOST, SECTORS, Verb};
 use crate::value::value_of;
 use crate::walk::{Before, given_place, is_option, kind_at, next, plain_place, start, word_at};
 
@@ -24,7 +25,7 @@ fn option_fault(verb: Verb, words: &[String], place: usize) -> Option<WordFault>
     match option_of(verb, word) {
         None => Some(WordFault::UnknownOption),
         Some(rule) => {
-            if given_place(verb, words, word, place, rule.again).is_some() {
+            if given_place(verb, words, word.as_bytes(), place, rule.again).is_some() {
                 Some(WordFault::Repeated)
             } else if rule.value.is_some() && place + 1 == words.len() {
                 Some(WordFault::NoValue)
@@ -100,7 +101,9 @@ fn too_many_lost(verb: Verb, words: &[String]) -> Option<WordRefused>
 {
     match verb {
         Verb::Demo => {
-            if plain_number(verb, words, 1, SECTORS) < plain_number(verb, words, 3, LOST) {
+            if plain_number(verb, words, 1, SECTORS.kind)
+                < plain_number(verb, words, 3, LOST.kind)
+            {
                 Some(WordRefused {
                     fault: WordFault::OutOfRange,
                     place: plain_at(verb, words, 3),

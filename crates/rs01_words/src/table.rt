@@ -1,6 +1,24 @@
 //! The table of the command line: the commands, their plain words and their options.
-ghost use Rattle.std.specs.Prelude.{◌≡◌};
-ghost use Rattle.rs01_words.specs.Table.{verb_of, option_of, plain_kinds, needed_of};
+//!
+//! The code and the definition of the grammar read these same rows. A further command is a row of
+//! `COMMANDS` with its plain words, a further option a rule and a row for each command that has it.
+
+/// The most letters that a word of the table has.
+pub const LONGEST: usize = 10;
+
+/// How a word of the table is spelled: its letters, and zeros behind them.
+pub type Spelling = [u8; LONGEST];
+
+/// A command.
+#[derive(Clone, Copy, PartialEq, Eq)]
+pub enum Verb {
+    Create,
+    Fix,
+    Verify,
+    Scan,
+    Read,
+    Demo,
+}
 
 /// What a word stands for that is no option.
 #[derive(Clone, Copy)]
@@ -15,20 +33,18 @@ pub enum Kind {
     Parity { low: u64, high: u64 },
 }
 
-/// A command.
+/// What the grammar says of a plain word.
 #[derive(Clone, Copy)]
-pub enum Verb {
-    Create,
-    Fix,
-    Verify,
-    Scan,
-    Read,
-    Demo,
+pub struct PlainWord {
+    pub kind: Kind,
+    /// Whether the word must be there. Those that may be left out are a command's last ones.
+    pub needed: bool,
 }
 
 /// What the grammar says of an option.
 #[derive(Clone, Copy)]
 pub struct OptionRule {
+    pub spelling: Spelling,
     /// What its value is. None where it takes no value.
     pub value: Option<Kind>,
     /// How often it may be given again after the first time.
@@ -43,46 +59,103 @@ pub const MOST_DRIVES: usize = 16;
 /// The parity bytes of the preset `normal`.
 pub const NORMAL: u64 = 32;
 
-/// The parity bytes of the preset `high`.
-pub const HIGH: u64 = 64;
+/// How many parity bytes a codeword may have.
+pub const PARITY_RANGE: Kind = Kind::Parity { low: 8, high: 100 };
 
-/// The parity bytes of a codeword.
-pub const PARITY_BYTES: Kind = Kind::Parity { low: 8, high: 100 };
+/// The name of an image.
+pub const IMAGE: PlainWord = PlainWord {
+    kind: Kind::Name,
+    needed: true,
+};
+
+/// The name of an error correction file.
+pub const ECC: PlainWord = PlainWord {
+    kind: Kind::Name,
+    needed: true,
+};
+
+/// The name of an error correction file, which may be left out.
+pub const ECC_IF_ANY: PlainWord = PlainWord {
+    kind: Kind::Name,
+    needed: false,
+};
 
 /// The number from which `demo` makes its image.
-pub const SEED: Kind = Kind::Number {
-    low: 0,
-    high: u64::MAX,
+pub const SEED: PlainWord = PlainWord {
+    kind: Kind::Number {
+        low: 0,
+        high: u64::MAX,
+    },
+    needed: true,
 };
 
 /// How many sectors `demo` makes.
-pub const SECTORS: Kind = Kind::Number {
-    low: 1,
-    high: 65_536,
+pub const SECTORS: PlainWord = PlainWord {
+    kind: Kind::Number {
+        low: 1,
+        high: 65_536,
+    },
+    needed: true,
+};
+
+/// The parity bytes of a codeword.
+pub const PARITY_BYTES: PlainWord = PlainWord {
+    kind: PARITY_RANGE,
+    needed: true,
 };
 
 /// How many sectors `demo` loses.
-pub const LOST: Kind = Kind::Number {
-    low: 0,
-    high: 65_536,
+pub const LOST: PlainWord = PlainWord {
+    kind: Kind::Number {
+        low: 0,
+        high: 65_536,
+    },
+    needed: true,
 };
 
 /// `--parity`: the parity bytes of a codeword.
 pub const PARITY: OptionRule = OptionRule {
-    value: Some(PARITY_BYTES),
+    spelling: *b"--parity\0\0",
+    value: Some(PARITY_RANGE),
     again: 0,
     default: NORMAL,
 };
 
 /// `--workers`: how many threads work.
 pub const WORKERS: OptionRule = OptionRule {
+    spelling: *b"--workers\0",
     value: Some(Kind::Number { low: 1, high: 32 }),
     again: 0,
     default: 2,
 };
 
+/// `--cut`: what stands behind the image is cut off.
+pub const CUT: OptionRule = OptionRule {
+    spelling: *b"--cut\0\0\0\0\0",
+    value: None,
+    again: 0,
+    default: 0,
+};
+
+/// `--drive`: the name of a drive.
+pub const DRIVE: OptionRule = OptionRule {
+    spelling: *b"--drive\0\0\0",
+    value: Some(Kind::Drive),
+    again: MOST_DRIVES - 1,
+    default: 0,
+};
+
+/// `--adaptive`: the largest unread stretch is halved, where linear reading goes on in order.
+pub const ADAPTIVE: OptionRule = OptionRule {
+    spelling: *b"--adaptive",
+    value: None,
+    again: 0,
+    default: 0,
+};
+
 /// `--jump`: how many sectors linear reading goes on after a failed one.
 pub const JUMP: OptionRule = OptionRule {
+    spelling: *b"--jump\0\0\0\0",
     value: Some(Kind::Number {
         low: 1,
         high: 1_048_576,
@@ -93,142 +166,55 @@ pub const JUMP: OptionRule = OptionRule {
 
 /// `--tries`: how often a sector is asked for.
 pub const TRIES: OptionRule = OptionRule {
+    spelling: *b"--tries\0\0\0",
     value: Some(Kind::Number { low: 1, high: 16 }),
     again: 0,
     default: 1,
 };
 
-/// `--drive`: the name of a drive.
-pub const DRIVE: OptionRule = OptionRule {
-    value: Some(Kind::Drive),
-    again: MOST_DRIVES - 1,
-    default: 0,
-};
+/// The numbers of parity bytes that have names.
+pub static PRESETS: [(Spelling, u64); 2] = [
+    (*b"normal\0\0\0\0", NORMAL),
+    (*b"high\0\0\0\0\0\0", 64),
+];
 
-/// An option that is there or not: `--cut`, `--adaptive`.
-pub const SWITCH: OptionRule = OptionRule {
-    value: None,
-    again: 0,
-    default: 0,
-};
+/// The words that name the commands.
+pub static COMMANDS: [(Spelling, Verb); 6] = [
+    (*b"create\0\0\0\0", Verb::Create),
+    (*b"fix\0\0\0\0\0\0\0", Verb::Fix),
+    (*b"verify\0\0\0\0", Verb::Verify),
+    (*b"scan\0\0\0\0\0\0", Verb::Scan),
+    (*b"read\0\0\0\0\0\0", Verb::Read),
+    (*b"demo\0\0\0\0\0\0", Verb::Demo),
+];
 
-/// The plain words of a command on an image and its error correction file.
-pub static IMAGE_AND_ECC: [Kind; 2] = [Kind::Name, Kind::Name];
+/// The plain words of the commands. Those of one command stand in their order.
+pub static PLAIN_WORDS: [(Verb, PlainWord); 13] = [
+    (Verb::Create, IMAGE),
+    (Verb::Create, ECC),
+    (Verb::Fix, IMAGE),
+    (Verb::Fix, ECC),
+    (Verb::Verify, IMAGE),
+    (Verb::Verify, ECC),
+    (Verb::Scan, ECC_IF_ANY),
+    (Verb::Read, IMAGE),
+    (Verb::Read, ECC_IF_ANY),
+    (Verb::Demo, SEED),
+    (Verb::Demo, SECTORS),
+    (Verb::Demo, PARITY_BYTES),
+    (Verb::Demo, LOST),
+];
 
-/// The plain words of a command on an error correction file.
-pub static ECC_ALONE: [Kind; 1] = [Kind::Name];
-
-/// The plain words of `demo`: the number of the image, its sectors, the parity bytes, and how many
-/// sectors are lost.
-pub static DEMO_NUMBERS: [Kind; 4] = [SEED, SECTORS, PARITY_BYTES, LOST];
-
-/// The command that a word names.
-#[tactic(auto, unfolding(crate::specs::Table::verb_of))]
-pub fn verb_of(word: &str) -> Option<Verb>
-    ensures { result ≡ verb_of word.now }
-{
-    if word == "create" {
-        Some(Verb::Create)
-    } else if word == "fix" {
-        Some(Verb::Fix)
-    } else if word == "verify" {
-        Some(Verb::Verify)
-    } else if word == "scan" {
-        Some(Verb::Scan)
-    } else if word == "read" {
-        Some(Verb::Read)
-    } else if word == "demo" {
-        Some(Verb::Demo)
-    } else {
-        None
-    }
-}
-
-/// The rule of the option that a word names, where the command has it.
-#[tactic(auto, unfolding(crate::specs::Table::option_of))]
-pub fn option_of(verb: Verb, word: &str) -> Option<OptionRule>
-    ensures { result ≡ option_of verb word.now }
-{
-    match verb {
-        Verb::Create => create_option(word),
-        Verb::Fix => fix_option(word),
-        Verb::Scan => scan_option(word),
-        Verb::Read => read_option(word),
-        Verb::Verify | Verb::Demo => None,
-    }
-}
-
-#[tactic(auto, unfolding(crate::specs::Table::option_of))]
-fn create_option(word: &str) -> Option<OptionRule>
-    ensures { result ≡ option_of Verb.Create word.now }
-{
-    if word == "--parity" {
-        Some(PARITY)
-    } else if word == "--workers" {
-        Some(WORKERS)
-    } else {
-        None
-    }
-}
-
-#[tactic(auto, unfolding(crate::specs::Table::option_of))]
-fn fix_option(word: &str) -> Option<OptionRule>
-    ensures { result ≡ option_of Verb.Fix word.now }
-{
-    if word == "--workers" {
-        Some(WORKERS)
-    } else if word == "--cut" {
-        Some(SWITCH)
-    } else {
-        None
-    }
-}
-
-#[tactic(auto, unfolding(crate::specs::Table::option_of))]
-fn scan_option(word: &str) -> Option<OptionRule>
-    ensures { result ≡ option_of Verb.Scan word.now }
-{
-    if word == "--drive" { Some(DRIVE) } else { None }
-}
-
-#[tactic(auto, unfolding(crate::specs::Table::option_of))]
-fn read_option(word: &str) -> Option<OptionRule>
-    ensures { result ≡ option_of Verb.Read word.now }
-{
-    if word == "--drive" {
-        Some(DRIVE)
-    } else if word == "--adaptive" {
-        Some(SWITCH)
-    } else if word == "--jump" {
-        Some(JUMP)
-    } else if word == "--tries" {
-        Some(TRIES)
-    } else if word == "--workers" {
-        Some(WORKERS)
-    } else {
-        None
-    }
-}
-
-/// The plain words that a command takes, in order.
-pub fn plain_kinds(verb: Verb) -> &'static [Kind]
-    ensures { result.now ≡ plain_kinds verb }
-{
-    match verb {
-        Verb::Create | Verb::Fix | Verb::Verify | Verb::Read => &IMAGE_AND_ECC,
-        Verb::Scan => &ECC_ALONE,
-        Verb::Demo => &DEMO_NUMBERS,
-    }
-}
-
-/// How many of its plain words a command needs.
-pub fn needed_of(verb: Verb) -> usize
-    ensures { result ≡ needed_of verb }
-{
-    match verb {
-        Verb::Create | Verb::Fix | Verb::Verify => 2,
-        Verb::Scan => 0,
-        Verb::Read => 1,
-        Verb::Demo => 4,
-    }
-}
+/// The options of the commands.
+pub static OPTIONS: [(Verb, OptionRule); 10] = [
+    (Verb::Create, PARITY),
+    (Verb::Create, WORKERS),
+    (Verb::Fix, WORKERS),
+    (Verb::Fix, CUT),
+    (Verb::Scan, DRIVE),
+    (Verb::Read, DRIVE),
+    (Verb::Read, ADAPTIVE),
+    (Verb::Read, JUMP),
+    (Verb::Read, TRIES),
+    (Verb::Read, WORKERS),
+];

@@ -4,7 +4,8 @@ ghost use Rattle.std.specs.List.{list_all};
 ghost use Rattle.rs01_words.specs.Value.{is_digit, is_decimal, number_of, number_within, up_to, value_of, kind_low, kind_high, value_low, value_high, is_sound, is_sound_rule, number_or, given_number};
 
 use crate::fault::WordFault;
-use crate::table::{HIGH, Kind, NORMAL, OptionRule};
+use crate::look_up::preset_of;
+use crate::table::{Kind, OptionRule};
 
 // Whether all bytes are decimal digits.
 fn all_digits(bytes: &[u8]) -> bool
@@ -68,15 +69,10 @@ pub fn value_of(kind: Kind, word: &str) -> Result<u64, WordFault>
     match kind {
         Kind::Name | Kind::Drive => Ok(0),
         Kind::Number { low, high } => number_within(word, low, high),
-        Kind::Parity { low, high } => {
-            if word == "normal" {
-                Ok(NORMAL)
-            } else if word == "high" {
-                Ok(HIGH)
-            } else {
-                number_within(word, low, high)
-            }
-        }
+        Kind::Parity { low, high } => match preset_of(word) {
+            Some(number) => Ok(number),
+            None => number_within(word, low, high),
+        },
     }
 }
 

@@ -7,7 +7,8 @@ ghost use Rattle.std.specs.Str.{bytes_eq};
 ghost use Rattle.std.specs.List.{slice_get};
 ghost use Rattle.rs01_words.specs.Line.{word_at, is_option, value_kind, plain_places, given_places, kind_at, before_at};
 
-use crate::table::{Kind, Verb, option_of, plain_kinds};
+use crate::look_up::{option_of, plain_kind};
+use crate::table::{Kind, Verb};
 
 /// What the words before a place say of it.
 #[derive(Clone, Copy)]
@@ -93,7 +94,7 @@ pub fn kind_at(verb: Verb, words: &[String], place: usize, before: Before) -> Op
     } else if is_option(word_at(words, place)) {
         None
     } else {
-        plain_kinds(verb).get(before.plain).copied()
+        plain_kind(verb, before.plain)
     }
 }
 
@@ -107,19 +108,19 @@ pub fn is_plain(words: &[String], place: usize, before: Before) -> bool
 }
 
 /// Whether the option is given at a place.
-pub fn is_given(words: &[String], option: &str, place: usize, before: Before) -> bool
+pub fn is_given(words: &[String], option: &[u8], place: usize, before: Before) -> bool
     requires { place < length words.now }
     ensures { result
         ≡ (not before.is_value && bytes_eq (word_at (map string_bytes words.now) place) option.now) }
 {
-    !before.is_value && word_at(words, place) == option
+    !before.is_value && word_at(words, place).as_bytes() == option
 }
 
 /// The place below `end` at which an option is given for the time `count`, counted from 0.
 pub fn given_place(
     verb: Verb,
     words: &[String],
-    option: &str,
+    option: &[u8],
     end: usize,
     count: usize,
 ) -> Option<usize>
