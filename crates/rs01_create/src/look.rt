@@ -7,6 +7,7 @@ ghost use Rattle.rs01_create.specs.Create.{IsOfImage, refusal_of, size_refusal};
 use crate::image::Image;
 use crate::marked::find_marked;
 use crate::refusal::CreateRefusal;
+use rs01_ecchead::read_piece;
 use rs01_layers::{Extent, Shape};
 use rs01_outside::{Desk, Failed};
 use std::alloc::Global;
@@ -53,8 +54,8 @@ fn read_whole<D: Desk>(
     let Ok(mut bytes) = vec![in alloc; 0u8; size] else {
         return Err(CreateRefusal::OutOfMemory);
     };
-    match desk.read_at(name, 0, &mut bytes) {
-        Ok(_) => Ok(bytes),
+    match read_piece(desk, name, 0, &mut bytes) {
+        Ok(()) => Ok(bytes),
         Err(Failed) => Err(CreateRefusal::ReadFault),
     }
 }

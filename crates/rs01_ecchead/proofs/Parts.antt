@@ -1,8 +1,10 @@
 -- Parts of a file that stand behind each other.
-use Rattle.std.proofs.Common.{◌≡◌, ℕ, ◌+◌, ◌-◌, ◌*◌, ◌≤◌, List, [], ◌++◌, length, take, drop, refl, sym, ap, ◌∙◌, arith, append_assoc}
+use Rattle.std.proofs.Common.{◌≡◌, ℕ, ◌+◌, ◌-◌, ◌*◌, ◌≤◌, List, [], ◌++◌, length, take, drop, replicate, refl, sym, ap, ◌∙◌, arith, append_assoc, append-nil, min}
 use Rattle.std.proofs.Math.Seq.{take-add, take-append_seam, drop-append-add}
-use Rattle.std.proofs.lemmas.List.{drop-drop, drop-append-le, take-append-le, take_all, length-drop}
-use Rattle.rs01_outside.specs.Files.{Files, bytes_of}
+use Rattle.std.proofs.lemmas.List.{drop-drop, drop-append-le, take-append-le, take_all, take_min, length-drop, length-take}
+use Rattle.std.proofs.Math.ListN.{drop_of_length-le}
+use Rattle.rs01_layers.specs.Sectors.{padded}
+use Rattle.rs01_outside.specs.Files.{Files, ReadsBytes, bytes_of}
 use Rattle.rs01_ecchead.specs.Header.{part}
 
 -- m bytes and then n more
@@ -18,6 +20,19 @@ one_more_part file before piece from at count order e =
     append_assoc before (part file from (at - from)) piece
     ∙ ap (λ xs. before ++ (part file from (at - from) ++ xs)) (e ∙ ap (λ k. part file k count) (sym place))
     ∙ ap (λ xs. before ++ xs) (sym (part-add file from (at - from) count) ∙ ap (part file from) total)
+
+-- a buffer that was read into, once zeros stand behind what the read took
+pub with_zeros : (file buffer rest : List ℕ) (at count len : ℕ) → length buffer ≡ len → ReadsBytes file at buffer count → rest ≡ replicate (len - count) 0
+    → take count buffer ++ (rest ++ drop (length buffer - count) (drop count buffer)) ≡ padded len (part file at len)
+unfolding padded
+with_zeros file buffer rest at count len long read zeros =
+    let counted : count ≡ min len (length (drop at file)) = omega (arith, read.counted, long, length-drop at file) in
+    let taken : take count buffer ≡ part file at len = read.filled ∙ ap (λ n. take n (drop at file)) counted ∙ take_min len (drop at file) in
+    let few : count ≡ length (part file at len) = omega (arith, counted, length-take len (drop at file)) in
+    let none : drop (length buffer - count) (drop count buffer) ≡ [] = drop_of_length-le (drop count buffer) (omega (arith, length-drop count buffer)) in
+    let behind : rest ++ drop (length buffer - count) (drop count buffer) ≡ replicate (len - length (part file at len)) 0 =
+    ap (λ xs. rest ++ xs) none ∙ append-nil rest ∙ zeros ∙ ap (λ n. replicate (len - n) 0) few in
+    λ i. taken i ++ behind i
 
 -- what was read of a file, by what the desk had at an earlier time
 pub piece_is : (f0 f1 : Files) (name into : List ℕ) (at len count : ℕ) → f1 ≡ f0 → len ≡ count

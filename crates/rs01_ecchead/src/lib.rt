@@ -16,6 +16,7 @@ pub use head_read::read_head;
 pub use head_write::write_head;
 pub use opened::{Ecc, EccRefusal, Which};
 pub use opening::open_ecc;
+pub use pieces::read_piece;
 pub use sectors::sector_in;
 
 #[cfg(test)]

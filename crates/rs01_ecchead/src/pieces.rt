@@ -4,14 +4,24 @@ ghost use Rattle.md5.specs.Md5.{Holds};
 ghost use Rattle.rs01_outside.specs.Causes.{HasCause};
 ghost use Rattle.rs01_outside.specs.Files.{bytes_of};
 ghost use Rattle.rs01_ecchead.specs.Header.{part};
+ghost use Rattle.rs01_layers.specs.Sectors.{padded};
 
 use md5::{Digest, Md5};
 use rs01_outside::{Desk, Failed};
 
-// Fills a buffer from a place of a file on. Where the desk has fewer bytes, zeros stand for the rest.
+/// Fills the whole of `into` with the bytes of a file from the place `at` on, which is counted in bytes. Zeros stand for
+/// those that the file doesn't have, so all of `into` becomes zeros where the name isn't there.
+///
+/// It fails only where the desk fails to read, and then nothing is said of what `into` holds.
+///
+/// Where the desk tells its files, `unchanged` says that no file changes, `filled` what all bytes of `into` are after a
+/// success, and `bytes` the same of a piece that the file has whole, where no zeros are needed. The other clauses hold
+/// always: whether the desk tells its files stays the same (`tells`), with a failure the count of read faults rose, else it
+/// stays (`cause`), and the count of write faults stays (`writes`).
 pub fn read_piece<D: Desk>(desk: &mut D, name: &str, at: u64, into: &mut [u8]) -> Result<(), Failed>
     ensures tells { D.tells desk.new ≡ D.tells desk.old }
     ensures unchanged { IsTrue (D.tells desk.old) → D.files desk.new ≡ D.files desk.old }
+    ensures filled { IsTrue (D.tells desk.old) → OnOk result (into.new ≡ padded (length into.old) (part (bytes_of (D.files desk.old) name.now) at (length into.old))) }
     ensures bytes { IsTrue (D.tells desk.old) → at + length into.old ≤ length (bytes_of (D.files desk.old) name.now) → OnOk result (into.new ≡ part (bytes_of (D.files desk.old) name.now) at (length into.old)) }
     ensures cause { HasCause (D.read_faults desk.old) (D.read_faults desk.new) result }
     ensures writes { D.write_faults desk.new ≡ D.write_faults desk.old }

@@ -1,25 +1,13 @@
 //! Reading bytes of a file.
-ghost use Rattle.std.specs.Prelude.{◌≡◌, ◌≢◌, ◌⊎◌, ◌+◌, ◌≤◌, Err, IfErr, IfOk, IsTrue, OnOk, length};
-ghost use Rattle.rs01_outside.specs.Causes.{HasCause, Rose};
+ghost use Rattle.std.specs.Prelude.{◌≡◌, ◌≢◌, ◌⊎◌, ◌+◌, ◌≤◌, Err, IfErr, IfOk, IsTrue, length};
+ghost use Rattle.rs01_outside.specs.Causes.{Rose};
 ghost use Rattle.rs01_outside.specs.Files.{bytes_of};
 ghost use Rattle.rs01_ecchead.specs.Header.{part};
 
 use crate::refusal::FixRefusal;
+use rs01_ecchead::read_piece;
 use rs01_outside::{Desk, Failed};
 use std::alloc::Global;
-
-// Fills a buffer from a place of a file on.
-fn read_piece<D: Desk>(desk: &mut D, name: &str, at: u64, into: &mut [u8]) -> Result<(), Failed>
-    ensures tells { D.tells desk.new ≡ D.tells desk.old }
-    ensures unchanged { IsTrue (D.tells desk.old) → D.files desk.new ≡ D.files desk.old }
-    ensures bytes { IsTrue (D.tells desk.old) → at + length into.old ≤ length (bytes_of (D.files desk.old) name.now)
-        → OnOk result (into.new ≡ part (bytes_of (D.files desk.old) name.now) at (length into.old)) }
-    ensures cause { HasCause (D.read_faults desk.old) (D.read_faults desk.new) result }
-    ensures writes { D.write_faults desk.new ≡ D.write_faults desk.old }
-{
-    desk.read_at(name, at, into)?;
-    Ok(())
-}
 
 // So many bytes from a place of a file on. Where the desk has fewer, zeros stand for the rest.
 pub fn read_bytes<D: Desk>(
