@@ -8,13 +8,13 @@ use Rattle.rs01_ecchead.proofs.Ranges.{range_with_len_more, range_with_len-appen
 use Rattle.rs01_ecchead.proofs.Parts.{first, skip}
 
 -- one more piece
-pub flat_more : (f : ℕ → List ℕ) (n : ℕ) → flat_map f (range_with_len 0 (suc n)) ≡ flat_map f (range_with_len 0 n) ++ f n
+pub flat_more : {A : Type 0} (f : ℕ → List A) (n : ℕ) → flat_map f (range_with_len 0 (suc n)) ≡ flat_map f (range_with_len 0 n) ++ f n
 flat_more f n =
     ap (flat_map f) (range_with_len_more 0 n ∙ ap (λ k. range_with_len 0 n ++ k ∷ []) (let e : 0 + n ≡ n = omega arith in e))
     ∙ flat_map-append f (range_with_len 0 n) (n ∷ [])
     ∙ ap (λ xs. flat_map f (range_with_len 0 n) ++ xs) (append-nil (f n))
 
-pub length-flat : (f : ℕ → List ℕ) (w n : ℕ) → ((k : ℕ) → k < n → length (f k) ≡ w) → length (flat_map f (range_with_len 0 n)) ≡ w * n
+pub length-flat : {A : Type 0} (f : ℕ → List A) (w n : ℕ) → ((k : ℕ) → k < n → length (f k) ≡ w) → length (flat_map f (range_with_len 0 n)) ≡ w * n
 length-flat f w zero each = (let e : 0 ≡ w * 0 = omega arith in e)
 length-flat f w (suc n) each =
     ap length (flat_more f n)

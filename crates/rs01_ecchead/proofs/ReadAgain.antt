@@ -36,7 +36,8 @@ N image = sectors_of (length image)
 abbrev sum_piece : List ℕ → ℕ → List ℕ
 sum_piece image s = to_le_bytes w32 (crc (sector image s))
 
-length-parity : (image : List ℕ) (r l b : ℕ) → r ≤ 100 → length (encode (column (layer image r l) b)) ≡ r
+-- the parity of a codeword has r bytes
+pub length-parity : (image : List ℕ) (r l b : ℕ) → r ≤ 100 → length (encode (column (layer image r l) b)) ≡ r
 length-parity image r l b most =
     let long : length (column (layer image r l) b) ≡ 255 - r = length-column (layer image r l) b ∙ length-layer image r l in
     length-encode (column (layer image r l) b) (omega (arith, long)) ∙ (let e : 255 - length (column (layer image r l) b) ≡ r = omega (arith, long) in e)

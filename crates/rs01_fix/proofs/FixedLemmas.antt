@@ -1,5 +1,5 @@
 -- The fixed file, sector by sector.
-use Rattle.std.proofs.Common.{◌≡◌, ℕ, zero, suc, ◌+◌, ◌-◌, ◌*◌, ◌<◌, ◌≤◌, List, [], ◌++◌, length, take, drop, get_or, refl, sym, ap, ◌∙◌, arith, add-one, append-nil, ⊎_elim, Bool, true, false, cond, eqb}
+use Rattle.std.proofs.Common.{◌≡◌, ℕ, zero, suc, ◌+◌, ◌-◌, ◌*◌, ◌<◌, ◌≤◌, List, [], ◌++◌, length, take, drop, get_or, refl, sym, ap, ◌∙◌, arith, append-nil, ⊎_elim, Bool, true, false, cond, eqb}
 use Rattle.std.specs.Prelude.{max, nat_lt, ◌&&◌}
 use Rattle.std.specs.List.{flat_map, range_with_len}
 use Rattle.std.proofs.lemmas.Bool.{cases_Bool, cases_lt, lt-ltb, eq-eqb, ne_eqb, cond-true, cond-false}
@@ -15,10 +15,10 @@ use Rattle.rs01_layers.proofs.PlaceLemmas.{each_sector_has_a_place, place_determ
 use Rattle.rs01_sums.specs.Marker.{marker}
 use Rattle.rs01_sums.proofs.MarkerLemmas.{length-marker}
 use Rattle.rs01_ecchead.specs.Erased.{Known, block_in, image_len, is_absent, is_erased}
+use Rattle.rs01_ecchead.proofs.Flats.{flat_more}
 use Rattle.rs01_fix.specs.Inputs.{flag_at, flags_at, place_number}
 use Rattle.rs01_fix.specs.Repair.{after_by, bytes_after, fixed_by, image_by, is_mended, is_restored, restored_at}
 use Rattle.rs01_fix.specs.Progress.{HaveBlocks}
-use Rattle.rs01_fix.proofs.Numbered.{pieces_more}
 use Rattle.rs01_fix.proofs.InputLemmas.{size_fits}
 use Rattle.rs01_fix.proofs.ProgressLemmas.{Sizes, IsFixed, ends_within}
 
@@ -47,8 +47,7 @@ length-sectors count len size f sizes same (suc n) h =
     let is = same n below in
     let w = sizes.whole n (omega arith) in
     let before = length-sectors count len size f sizes same n below in
-    ap (λ k. length (flat_map f (range_with_len 0 k))) (sym (add-one n)) ∙ ap length (pieces_more f n)
-    ∙ length-append (flat_map f (range_with_len 0 n)) (f n) ∙ omega arith
+    ap length (flat_more f n) ∙ length-append (flat_map f (range_with_len 0 n)) (f n) ∙ omega arith
 
 length-image : (count len : ℕ) (size : ℕ → ℕ) (f : ℕ → List ℕ) → Sizes count len size → ((s : ℕ) → s < count → length (f s) ≡ size s)
     → length (flat_map f (range_with_len 0 count)) ≡ len
@@ -56,11 +55,11 @@ length-image count len size f sizes same =
     let some = sizes.some in
     let m : ℕ = count - 1 in
     let below : m < count = omega arith in
-    let e : count ≡ m + 1 = omega arith in
+    let e : count ≡ suc m = omega arith in
     let is = same m below in
     let before = length-sectors count len size f sizes same m below in
     let whole = sizes.last m (omega arith) in
-    ap (λ k. length (flat_map f (range_with_len 0 k))) e ∙ ap length (pieces_more f m)
+    ap (λ k. length (flat_map f (range_with_len 0 k))) e ∙ ap length (flat_more f m)
     ∙ length-append (flat_map f (range_with_len 0 m)) (f m) ∙ omega arith
 
 get_or-sectors : (count len : ℕ) (size : ℕ → ℕ) (f : ℕ → List ℕ) → Sizes count len size → ((s : ℕ) → s < count → length (f s) ≡ size s)
@@ -70,7 +69,7 @@ get_or-sectors count len size f sizes same (suc n) s j fits below inside =
     let all : List ℕ = flat_map f (range_with_len 0 n) in
     let long : length all ≡ 2048 * n = length-sectors count len size f sizes same n (omega arith) in
     let small = sizes.fits s in
-    ap (λ k. get_or (flat_map f (range_with_len 0 k)) (2048 * s + j) 0) (sym (add-one n)) ∙ ap (λ xs. get_or xs (2048 * s + j) 0) (pieces_more f n)
+    ap (λ xs. get_or xs (2048 * s + j) 0) (flat_more f n)
     ∙ ⊎_elim
     (λ before. get_or_append_left all (f n) 0 (2048 * s + j) (omega arith) ∙ get_or-sectors count len size f sizes same n s j (omega arith) before inside)
     (λ here.

@@ -12,11 +12,12 @@ use Rattle.rs01_layers.specs.Layout.{number_at, sector_at}
 use Rattle.rs01_layers.specs.Blocks.{blocks_of, is_parity_len}
 use Rattle.rs01_layers.proofs.BlockLemmas.{length-block, length-padded}
 use Rattle.rs01_ecchead.specs.Erased.{Known, block_in, is_erased}
+use Rattle.rs01_ecchead.proofs.Flats.{length-flat}
 use Rattle.rs01_fix.specs.Inputs.{place_number, block_at, flag_at, sum_at, blocks_at, flags_at, sums_at, parity_at, layer_answer}
 use Rattle.rs01_erase.specs.LayerValue.{correct_of}
 use Rattle.rs01_erase.proofs.Found.{map_same}
 use Rattle.rs01_erase.proofs.ErasedPlaces.{number_in_range}
-use Rattle.rs01_fix.proofs.Numbered.{length-pieces, get_or-pieces}
+use Rattle.rs01_fix.proofs.Numbered.{get_or-pieces}
 
 pub size_fits : (n last s : ℕ) → last ≤ 2048 → length_of n last s ≤ 2048
 size_fits n last s h =
@@ -109,7 +110,7 @@ pub blocks_cut : (known : Known) (y bytes : List ℕ) (r l : ℕ) → known.last
 unfolding blocks_of blocks_at
 blocks_cut known y bytes r l fits e =
     let long : (p : ℕ) → length (block_at known y r l p) ≡ 2048 = λ p. length-block_at known y r l p fits in
-    let whole = length-pieces (block_at known y r l) (255 - r) long in
+    let whole = length-flat (block_at known y r l) 2048 (255 - r) (λ p inside. long p) in
     ap (λ all. map (λ p. take 2048 (drop (2048 * p) all)) (range_with_len 0 (255 - r))) e
     ∙ map_same (λ p. take 2048 (drop (2048 * p) (flat_map (block_at known y r l) (range_with_len 0 (255 - r))))) (block_at known y r l) (range_with_len 0 (255 - r))
     (λ k below.

@@ -11,14 +11,13 @@ use Rattle.rs01_layers.specs.Layout.{layers_of, number_at, parity_offset}
 use Rattle.rs01_layers.specs.Layer.{column, layer}
 use Rattle.rs01_layers.specs.Layer as image_layer
 use Rattle.rs01_layers.specs.declared.task.LayerOut.TheVariants.{Beyond, Restored}
-use Rattle.rs01_layers.proofs.BlockLemmas.{block_at-padding, block_at-sector, get_or-block_at, get_or-layer, length-block_at, length-column, length-layer}
+use Rattle.rs01_layers.proofs.BlockLemmas.{block_at-padding, block_at-sector, get_or-block_at, get_or-layer, length-block_at, length-layer}
 use Rattle.rs01_sums.specs.Crc.{crc}
 use Rattle.rs01_ecchead.specs.EccFile.{ecc_file, layer_parity}
 use Rattle.rs01_ecchead.specs.Erased.{block_in, erased_in, is_erased}
 use Rattle.rs01_ecchead.specs.Header.{part}
-use Rattle.rs01_ecchead.proofs.ReadAgain.{layer_parity_again, read_again}
+use Rattle.rs01_ecchead.proofs.ReadAgain.{layer_parity_again, length-parity, read_again}
 use Rattle.rs01_ecchead.proofs.Flats.{flat_at}
-use Rattle.rs01_poly.proofs.Division.{length-encode}
 use Rattle.rs01_poly.specs.Code.{encode}
 use Rattle.rs01_erase.specs.Correcting.{IsBlock, IsIntact}
 use Rattle.rs01_erase.specs.LayerValue.{erased_places, placed}
@@ -124,11 +123,6 @@ sums_are image y r l p is e =
     let long = length-flags_at known y r l in
     absurd (false≢true (sym (get_or_past (flags_at known y r l) p false (omega (arith, long))) ∙ e)))
     (cases_lt p (255 - r))
-
-length-parity : (image : List ℕ) (r l b : ℕ) → r ≤ 100 → length (encode (column (layer image r l) b)) ≡ r
-length-parity image r l b most =
-    let long : length (column (layer image r l) b) ≡ 255 - r = length-column (layer image r l) b ∙ length-layer image r l in
-    length-encode (column (layer image r l) b) (omega (arith, long)) ∙ (let e : 255 - length (column (layer image r l) b) ≡ r = omega (arith, long) in e)
 
 parity_is : (image : List ℕ) (r l b : ℕ) → IsProtected image r → l < layers_of (N image) r → b < 2048
     → take r (drop (b * r) (parity_at (known_of_image image r) (ecc_file image r) r l)) ≡ encode (column (layer image r l) b)

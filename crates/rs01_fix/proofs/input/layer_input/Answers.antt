@@ -1,7 +1,7 @@
 use Rattle.std.proofs.Common.{◌∙◌, ◌-◌, ap, arith, length}
 use Rattle.rs01_ecchead.specs.Erased.{known_of}
+use Rattle.rs01_ecchead.proofs.Flats.{length-flat}
 use Rattle.rs01_fix.specs.Inputs.{block_at}
-use Rattle.rs01_fix.proofs.Numbered.{length-pieces}
 use Rattle.rs01_fix.proofs.InputLemmas.{flags_are, sums_are, length-flags_at, length-sums_at, length-block_at, parity_given}
 use Rattle.rs01_fix.proofs.input.layer_input.Goals as goal
 
@@ -15,8 +15,8 @@ invariant_of-result c =
       least = omega arith;
       most = omega arith;
       data_len = ap length (c.of.ensures ∙ c.in_ok-blocks.ensures)
-          ∙ length-pieces (block_at known held.image.items held.ecc.head.parity c.args.layer) (255 - held.ecc.head.parity)
-          (λ place. length-block_at known held.image.items held.ecc.head.parity c.args.layer place held.ecc.head.last_fits)
+          ∙ length-flat (block_at known held.image.items held.ecc.head.parity c.args.layer) 2048 (255 - held.ecc.head.parity)
+          (λ place inside. length-block_at known held.image.items held.ecc.head.parity c.args.layer place held.ecc.head.last_fits)
           ∙ omega (arith, p);
       erased_len = ap length (c.of-2.ensures ∙ flags_are known held.image.items held.ecc.head.parity c.args.layer _ c.in_ok-flags.ensures)
           ∙ length-flags_at known held.image.items held.ecc.head.parity c.args.layer ∙ omega (arith, p);
