@@ -1,5 +1,5 @@
 //! Telling how a run ended.
-ghost use Rattle.std.specs.Prelude.{◌≡◌, ◌≢◌, ◌⊎◌, [], IsTrue};
+ghost use Rattle.std.specs.Prelude.{◌≡◌, ◌≢◌, ◌⊎◌, [], Err, IsTrue, OnOk};
 ghost use Rattle.rs01_outside.specs.Causes.{Rose};
 ghost use Rattle.rs01_report.specs.Faults.{fault_line};
 ghost use Rattle.rs01_report.specs.FixTexts.{fix_lines};
@@ -14,6 +14,20 @@ use rs01_report::{
 };
 use std::alloc::Global;
 
+// The status after something was put: the given one where it was put whole, 7 for want of memory, and 6 where the output
+// failed.
+fn put_status(put: Result<(), PutRefusal>, status: u8) -> u8
+    ensures whole { OnOk put (result ≡ status) }
+    ensures memory { put ≡ Err PutRefusal.OutOfMemory → result ≡ 7 }
+    ensures output { put ≡ Err PutRefusal.SinkFault → result ≡ 6 }
+{
+    match put {
+        Ok(()) => status,
+        Err(PutRefusal::OutOfMemory) => 7,
+        Err(PutRefusal::SinkFault) => 6,
+    }
+}
+
 // Puts the line of a fault and gives its status. Where the line can't be put whole the status is 6, and 7 for want of
 // memory, which no other fault replaces.
 pub fn tell_fault<S: Sink>(alloc: Global, fault: &Fault, status: u8, out: &mut S) -> u8
@@ -26,11 +40,8 @@ pub fn tell_fault<S: Sink>(alloc: Global, fault: &Fault, status: u8, out: &mut S
     ensures cause { status ≢ 6 → result ≡ 6 → Rose (S.faults out.old) (S.faults out.new) }
     ensures quiet { result ≡ status → status ≢ 6 → status ≢ 7 → S.faults out.new ≡ S.faults out.old }
 {
-    match put_fault(alloc, fault, out) {
-        Ok(()) => status,
-        Err(PutRefusal::OutOfMemory) => 7,
-        Err(PutRefusal::SinkFault) => { if status == 7 { 7 } else { 6 } }
-    }
+    let told = put_status(put_fault(alloc, fault, out), status);
+    if status == 7 { 7 } else { told }
 }
 
 // Puts the report of a new file and gives the status.
@@ -43,11 +54,7 @@ pub fn tell_created<S: Sink>(alloc: Global, report: &CreateReport, name: &str, o
     ensures cause { result ≡ 6 → Rose (S.faults out.old) (S.faults out.new) }
     ensures quiet { result ≡ 0 → S.faults out.new ≡ S.faults out.old }
 {
-    match put_create(alloc, report, name, out) {
-        Ok(()) => 0,
-        Err(PutRefusal::OutOfMemory) => 7,
-        Err(PutRefusal::SinkFault) => 6,
-    }
+    put_status(put_create(alloc, report, name, out), 0)
 }
 
 // Whether a digest is the recorded one.
@@ -84,11 +91,7 @@ pub fn tell_checked<S: Sink>(alloc: Global, report: &VerifyReport, name: &str, o
     ensures cause { result ≡ 6 → Rose (S.faults out.old) (S.faults out.new) }
     ensures quiet { result ≡ checked_status report.now → S.faults out.new ≡ S.faults out.old }
 {
-    match put_verify(alloc, report, name, out) {
-        Ok(()) => checked_status(report),
-        Err(PutRefusal::OutOfMemory) => 7,
-        Err(PutRefusal::SinkFault) => 6,
-    }
+    put_status(put_verify(alloc, report, name, out), checked_status(report))
 }
 
 // The status of a repair: 0 where no sector is lost and no layer is strange.
@@ -110,9 +113,5 @@ pub fn tell_fixed<S: Sink>(alloc: Global, report: &FixReport, name: &str, out: &
     ensures cause { result ≡ 6 → Rose (S.faults out.old) (S.faults out.new) }
     ensures quiet { result ≡ fixed_status report.now → S.faults out.new ≡ S.faults out.old }
 {
-    match put_fix(alloc, report, name, out) {
-        Ok(()) => fixed_status(report),
-        Err(PutRefusal::OutOfMemory) => 7,
-        Err(PutRefusal::SinkFault) => 6,
-    }
+    put_status(put_fix(alloc, report, name, out), fixed_status(report))
 }

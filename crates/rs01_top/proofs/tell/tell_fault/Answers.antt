@@ -1,6 +1,9 @@
 use Rattle.rs01_report.specs.Faults.{fault_line}
-use Rattle.rs01_top.proofs.Prefixes.{whole_is_prefix}
+use Rattle.rs01_top.proofs.Prefixes.{puts_prefix}
 use Rattle.rs01_top.proofs.tell.tell_fault.Goals as goal
 
-pub returns-in-Ok-clause-prefix : goal.returns-in-Ok-clause-prefix
-returns-in-Ok-clause-prefix g c = whole_is_prefix _ (fault_line c.args.fault.now) _ _ (λ t. c.in-Ok.ensures.taken t)
+pub returns-then-status-eq7-clause-prefix : goal.returns-then-status-eq7-clause-prefix
+returns-then-status-eq7-clause-prefix g c = puts_prefix _ (fault_line c.args.fault.now) _ _ c.put_fault.result c.put_fault.ensures.taken
+
+pub returns-else-status-eq7-clause-prefix : goal.returns-else-status-eq7-clause-prefix
+returns-else-status-eq7-clause-prefix g c = puts_prefix _ (fault_line c.args.fault.now) _ _ c.put_fault.result c.put_fault.ensures.taken
