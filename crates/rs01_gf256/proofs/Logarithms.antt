@@ -5,7 +5,7 @@ use Rattle.std.proofs.Math.Nat.{zero-add, mul-suc}
 use Rattle.std.proofs.lemmas.Bool.{cases_lt}
 use borrow.Author.Tests.{ltb-true, eqb-true}
 use Rattle.rs01_gf256.specs.declared.tables.TheConstants.{EXP, LOG}
-use Rattle.rs01_gf256.specs.Field.{product, reduce, times, power}
+use Rattle.rs01_gf256.specs.Field.{product, reduce, times, power, inverse}
 use Rattle.rs01_gf256.proofs.Laws.{each, each_at, times-comm, times-assoc, one-times, zero-times, times-zero}
 
 exp_step_test : each (λ i. eqb (get_or EXP (i + 1) 0) (times 2 (get_or EXP i 0))) 510 ≡ true
@@ -21,7 +21,7 @@ log_test = refl
 exp_log_test : each (λ k. eqb (get_or LOG (get_or EXP k 0) 0) k) 255 ≡ true
 exp_log_test = refl
 
-log_below_test : each (λ x. ltb (get_or LOG x 0) 255) 256 ≡ true
+log_below_test : each (λ x. ltb (get_or LOG (x + 1) 0) 255) 255 ≡ true
 log_below_test = refl
 
 pub exp_step : (i : ℕ) → i < 510 → get_or EXP (i + 1) 0 ≡ times 2 (get_or EXP i 0)
@@ -33,8 +33,11 @@ exp_below i h = ltb-true _ _ (each_at (λ i. ltb (get_or EXP i 0) (2 ^ 8)) 511 i
 pub log_exp : (x : ℕ) → x < 255 → get_or EXP (get_or LOG (x + 1) 0) 0 ≡ x + 1
 log_exp x h = eqb-true _ _ (each_at (λ x. eqb (get_or EXP (get_or LOG (x + 1) 0) 0) (x + 1)) 255 x log_test h)
 
-pub log_below : (x : ℕ) → x < 256 → get_or LOG x 0 < 255
-log_below x h = ltb-true _ _ (each_at (λ x. ltb (get_or LOG x 0) 255) 256 x log_below_test h)
+pub log_below : (x : ℕ) → 0 < x → x < 256 → get_or LOG x 0 < 255
+log_below x p h =
+    let same : x - 1 + 1 ≡ x = omega arith in
+    let low : get_or LOG (x - 1 + 1) 0 < 255 = ltb-true _ _ (each_at (λ x. ltb (get_or LOG (x + 1) 0) 255) 255 (x - 1) log_below_test (omega arith)) in
+    rw same at low
 
 -- each power below the 255th has its exponent as its logarithm
 pub exp_log : (k : ℕ) → k < 255 → get_or LOG (get_or EXP k 0) 0 ≡ k
@@ -59,7 +62,7 @@ exp_sum (suc i) j h =
 -- the product by logarithms
 pub by_logs : (x y : ℕ) → 0 < x → 0 < y → x < 256 → y < 256 → get_or EXP (get_or LOG x 0 + get_or LOG y 0) 0 ≡ times x y
 by_logs x y px py hx hy =
-    exp_sum (get_or LOG x 0) (get_or LOG y 0) (omega (arith, log_below x hx, log_below y hy)) ∙ (λ i. times (exp_of_log x px hx i) (exp_of_log y py hy i))
+    exp_sum (get_or LOG x 0) (get_or LOG y 0) (omega (arith, log_below x px hx, log_below y py hy)) ∙ (λ i. times (exp_of_log x px hx i) (exp_of_log y py hy i))
 
 -- the powers of 2, which come again after 255
 pub exp_power : (n : ℕ) → power 2 n ≡ get_or EXP (n % 255) 0
@@ -83,16 +86,16 @@ times_below x y hx hy =
     ⊎_elim
     (λ dx.
     ⊎_elim
-    (λ dy. rw (sym (by_logs x y dx dy hx hy)) (exp_below (get_or LOG x 0 + get_or LOG y 0) (omega (arith, log_below x hx, log_below y hy))))
+    (λ dy. rw (sym (by_logs x y dx dy hx hy)) (exp_below (get_or LOG x 0 + get_or LOG y 0) (omega (arith, log_below x dx hx, log_below y dy hy))))
     (λ (ey : y ≤ 0). let none : y ≡ 0 = omega arith in rw (none, times-zero) (omega arith))
     (cases_lt 0 y))
     (λ (ex : x ≤ 0). let none : x ≡ 0 = omega arith in rw (none, zero-times) (omega arith))
     (cases_lt 0 x)
 
--- the power at 255 less the logarithm is the inverse
-pub inverse : (x : ℕ) → 0 < x → x < 2 ^ 8 → times x (get_or EXP (255 - get_or LOG x 0) 0) ≡ 1
-inverse x p h =
-    let low : get_or LOG x 0 < 255 = log_below x h in
+-- the power at 255 less the logarithm is an inverse
+pub inverse_by_log : (x : ℕ) → 0 < x → x < 2 ^ 8 → times x (get_or EXP (255 - get_or LOG x 0) 0) ≡ 1
+inverse_by_log x p h =
+    let low : get_or LOG x 0 < 255 = log_below x p h in
     let whole : get_or LOG x 0 + (255 - get_or LOG x 0) ≡ 255 = omega arith in
     let last : get_or EXP 255 0 ≡ 1 = refl in
     sym (ap (λ v. times v (get_or EXP (255 - get_or LOG x 0) 0)) (exp_of_log x p h))
@@ -106,7 +109,7 @@ zero_product x y hx hy e =
     (λ p.
     let v = get_or EXP (255 - get_or LOG x 0) 0 in
     let vh : v < 2 ^ 8 = exp_below (255 - get_or LOG x 0) (omega arith) in
-    let one : times v x ≡ 1 = times-comm v x vh hx ∙ inverse x p hx in
+    let one : times v x ≡ 1 = times-comm v x vh hx ∙ inverse_by_log x p hx in
     inr (sym (one-times y hy) ∙ sym (ap (λ w. times w y) one) ∙ times-assoc v x y vh hx hy ∙ ap (times v) e ∙ times-zero v))
     (λ n. inl (omega arith))
     (cases_lt 0 x)
@@ -147,3 +150,49 @@ power-power x m (suc n) h =
     let same : m * suc n ≡ m + m * n = mul-suc m n ∙ add_comm (m * n) m in
     rw same
     (ap (times (power x m)) (power-power x m n h) ∙ sym (power-add x m (m * n) h))
+
+power-suc : (x n : ℕ) → power x (suc n) ≡ times x (power x n)
+unfolding power
+power-suc x n = refl
+
+-- the 255th power of each element but 0 is 1
+power-255 : (x : ℕ) → 0 < x → x < 2 ^ 8 → power x 255 ≡ 1
+power-255 x p h =
+    let k = get_or LOG x 0 in
+    let low : k < 255 = log_below x p h in
+    let itself : k % 255 ≡ k = omega arith in
+    let none : k * 255 % 255 ≡ 0 = omega arith in
+    let first : get_or EXP 0 0 ≡ 1 = refl in
+    let element : power 2 k ≡ x = exp_power k ∙ ap (λ i. get_or EXP i 0) itself ∙ exp_of_log x p h in
+    ap (λ v. power v 255) (sym element)
+    ∙ power-power 2 k 255 (omega arith)
+    ∙ exp_power (k * 255)
+    ∙ ap (λ i. get_or EXP i 0) none ∙ first
+
+-- an element that is not 0 times its inverse is 1
+pub times-inverse : (x : ℕ) → 0 < x → x < 2 ^ 8 → times x (inverse x) ≡ 1
+unfolding inverse
+times-inverse x p h = sym (power-suc x 254) ∙ power-255 x p h
+
+pub inverse_below : (x : ℕ) → x < 2 ^ 8 → inverse x < 2 ^ 8
+unfolding inverse
+inverse_below x h = power_below x 254 h
+
+-- an element whose product with x is 1 is the inverse of x
+pub inverse_is_unique : (x y : ℕ) → x < 2 ^ 8 → y < 2 ^ 8 → times x y ≡ 1 → y ≡ inverse x
+inverse_is_unique x y hx hy e =
+    ⊎_elim
+    (λ p.
+    let v = inverse x in
+    let hv : v < 2 ^ 8 = inverse_below x hx in
+    sym (one-times y hy)
+    ∙ ap (λ w. times w y) (sym (times-inverse x p hx) ∙ times-comm x v hx hv)
+    ∙ times-assoc v x y hv hx hy
+    ∙ ap (times v) e
+    ∙ times-comm v 1 hv (omega arith)
+    ∙ one-times v hv)
+    (λ (g : x ≤ 0).
+    let none : x ≡ 0 = omega arith in
+    let zero_product : times x y ≡ 0 = rw (none, zero-times) refl in
+    absurd (omega arith))
+    (cases_lt 0 x)

@@ -21,3 +21,7 @@ times x y = reduce 7 (product 8 x y)
 unfoldable pub power : ℕ → ℕ → ℕ
 power x zero = 1
 power x (suc n) = times x (power x n)
+
+-- the inverse of an element that is not 0: its 254th power, since its 255th power is 1
+unfoldable pub inverse : ℕ → ℕ
+inverse x = power x 254

@@ -1,24 +1,23 @@
 -- The difference law: a list of at most 255 bytes that vanishes at as many roots as it has places that may differ
--- from zero is zero. The bytes that are not zero are the pairs of a power sum for each root.
+-- from zero is zero. The bytes that are not zero give the pairs whose syndromes are those of the list.
 use Rattle.std.proofs.Common.{◌≡◌, ℕ, zero, suc, ◌+◌, ◌-◌, ◌*◌, ◌%◌, ◌^◌, ◌<◌, ◌≤◌, List, [], ◌∷◌, ◌++◌, length, get_or, refl, sym, ap, ◌∙◌, arith, bit_xor, ⊎_elim}
 use Rattle.std.proofs.Math.Nat.{mul_assoc, mul_comm}
-use Rattle.std.specs.Prelude.{All, Contains}
+use Rattle.std.specs.Prelude.{Contains}
 use Rattle.std.specs.List.Sorted.{IsStrictlyIncreasing}
 use Rattle.std.proofs.lemmas.Nat.{xor_lt}
 use Rattle.std.proofs.lemmas.Bool.{cases_lt}
-use Rattle.std.proofs.lemmas.List.{get_or_past, append_cancel_left, length-append}
-use Rattle.std.proofs.lemmas.List.Elements.{All-get_or, All-from_get_or}
+use Rattle.std.proofs.lemmas.List.{append_cancel_left, length-append}
 use Rattle.std.proofs.lemmas.Grind.{same_number_lists}
 use Rattle.std.specs.Int.Bits.{xor_self}
 use Rattle.rs01_gf256.specs.Field.{times, power}
 use Rattle.rs01_gf256.proofs.Laws.{times-assoc}
 use Rattle.rs01_gf256.proofs.Logarithms.{times_below, power_below, power-add, power-power, zero_product, equal_roots}
 use Rattle.rs01_poly.specs.Polynomial.{horner, value_at, add_front}
-use Rattle.rs01_poly.specs.Code.{root, encode, IsCodeword, VanishesAtRoots, IsZeroOutside, AgreeOutside}
+use Rattle.rs01_poly.specs.Code.{root, syndrome, encode, IsCodeword, VanishesAtRoots, IsZeroOutside, AgreeOutside}
 use Rattle.rs01_poly.proofs.Coefficients.{length-add_front, get_or-add_front}
-use Rattle.rs01_poly.proofs.Values.{AllBytes, AllBytes-add_front, AllBytes-append, leading_zero, value_at-cons, value_at-add_front}
+use Rattle.rs01_poly.proofs.Values.{AllBytes, bytes_of_all, all_of_bytes, AllBytes-add_front, AllBytes-append, leading_zero, value_at-cons, value_at-add_front}
 use Rattle.rs01_poly.proofs.Division.{root_below, length-encode, AllBytes-encode, encoded_vanishes}
-use Rattle.rs01_poly.proofs.Vanish.{mul, mul_bytes, IsNil, power_of, power_sum, DiffersFromAll, AllDiffer, AllNil, vanish, xor_same}
+use Rattle.rs01_poly.proofs.Syndromes.{mul, mul_bytes, IsZeroByte, power_of, pairs_syndrome, DiffersFromAll, AllDiffer, AllZero, vanish, xor_same}
 
 -- the power of 2^11 that stands for the place with m places after it
 pub locator : ℕ → ℕ
@@ -62,16 +61,16 @@ one_pair y m j hy =
     ∙ sym (mul_bytes (times y (power x 112)) (power x j) (times_below y (power x 112) hy h112) hj)
     ∙ ap (mul (times y (power x 112))) (sym (power_of-bytes x j hx))
 
--- the value at a root is a power sum
-sums : (c : List ℕ) (j : ℕ) → AllBytes c → value_at c (root j) ≡ power_sum j (pairs c)
-unfolding pairs power_sum value_at horner
-sums [] j h = refl
-sums (zero ∷ c) j h = leading_zero c (root j) ∙ sums c j (λ k. h (suc k))
-sums (suc y ∷ c) j h =
+-- the syndromes of a list are those of its pairs
+syndrome-pairs : (c : List ℕ) (j : ℕ) → AllBytes c → syndrome c j ≡ pairs_syndrome j (pairs c)
+unfolding pairs pairs_syndrome value_at horner
+syndrome-pairs [] j h = refl
+syndrome-pairs (zero ∷ c) j h = leading_zero c (root j) ∙ syndrome-pairs c j (λ k. h (suc k))
+syndrome-pairs (suc y ∷ c) j h =
     value_at-cons (suc y) c (root j) (h 0) (root_below j) (λ k. h (suc k))
-    ∙ (λ i. bit_xor (one_pair (suc y) (length c) j (h 0) i) (sums c j (λ k. h (suc k)) i))
+    ∙ (λ i. bit_xor (one_pair (suc y) (length c) j (h 0) i) (syndrome-pairs c j (λ k. h (suc k)) i))
 
-locators_differ : (m n : ℕ) → m < 255 → n < 255 → IsNil (bit_xor (locator m) (locator n)) → n ≡ m
+locators_differ : (m n : ℕ) → m < 255 → n < 255 → IsZeroByte (bit_xor (locator m) (locator n)) → n ≡ m
 unfolding locator
 locators_differ m n hm hn e =
     let both : bit_xor (locator m) (locator n) < 2 ^ 8 = xor_lt 8 (locator m) (locator n) (locator_below m) (locator_below n) in
@@ -102,8 +101,8 @@ locator_some : (m : ℕ) → 0 < locator m
 unfolding locator
 locator_some m = ⊎_elim (λ h. h) (λ (g : power 2 (11 * m) ≤ 0). absurd (power_some 2 (11 * m) (omega arith) (omega arith) (omega arith))) (cases_lt 0 (power 2 (11 * m)))
 
-none_left : (c : List ℕ) → AllBytes c → AllNil (pairs c) → (k : ℕ) → get_or c k 0 ≡ 0
-unfolding pairs AllNil
+none_left : (c : List ℕ) → AllBytes c → AllZero (pairs c) → (k : ℕ) → get_or c k 0 ≡ 0
+unfolding pairs AllZero
 none_left [] h a k = refl
 none_left (zero ∷ c) h a zero = refl
 none_left (zero ∷ c) h a (suc k) = none_left c (λ j. h (suc j)) a k
@@ -112,7 +111,7 @@ none_left (suc y ∷ c) h a k =
     let hx : x < 2 ^ 8 = locator_below (length c) in
     let hp : power x 112 < 2 ^ 8 = power_below x 112 hx in
     let small : times (suc y) (power x 112) < 2 ^ 8 = times_below (suc y) (power x 112) (h 0) hp in
-    let nil : times (suc y) (power x 112) % 2 ^ 8 ≡ 0 = a.0 in
+    let zero_byte : times (suc y) (power x 112) % 2 ^ 8 ≡ 0 = a.0 in
     let none : times (suc y) (power x 112) ≡ 0 = omega arith in
     ⊎_elim (λ (f : suc y ≡ 0). absurd (omega arith)) (λ f. absurd (power_some x 112 (locator_some (length c)) hx f))
     (zero_product (suc y) (power x 112) (h 0) hp none)
@@ -122,7 +121,7 @@ pub few_vanish : (c : List ℕ) (n : ℕ) → length c ≤ 255 → AllBytes c �
     → (k : ℕ) → get_or c k 0 ≡ 0
 few_vanish c n long bytes few e =
     none_left c bytes
-    (vanish (length (pairs c)) (pairs c) refl (all_differ c long) (λ j h. sym (sums c j bytes) ∙ e j (omega arith)))
+    (vanish (length (pairs c)) (pairs c) refl (all_differ c long) (λ j h. sym (syndrome-pairs c j bytes) ∙ e j (omega arith)))
 
 -- the places rise, from s or more
 RisesFrom : ℕ → List ℕ → Type 0
@@ -190,13 +189,6 @@ few_pairs (y ∷ c) (p ∷ places) s r out =
     in_rest : (p : ℕ) (places : List ℕ) (s k : ℕ) → p ≡ s → Contains (p ∷ places) (suc s + k) → Contains places (suc s + k)
     in_rest p places s k e (zero, h, f) = absurd (omega arith)
     in_rest p places s k e (suc j, h, f) = (j, omega arith, f)
-
-bytes_of_all : (c : List ℕ) → All (λ b. b < 2 ^ 8) c → AllBytes c
-bytes_of_all c h k =
-    ⊎_elim (λ l. All-get_or (λ b. b < 2 ^ 8) c k 0 l h) (λ g. rw (get_or_past c k 0 g) (omega arith)) (cases_lt k (length c))
-
-all_of_bytes : (c : List ℕ) → AllBytes c → All (λ b. b < 2 ^ 8) c
-all_of_bytes c h = All-from_get_or (λ b. b < 2 ^ 8) c 0 (λ k l. h k)
 
 -- the difference law: a list that vanishes at the first n roots, and is zero outside at most n places, is zero
 pub difference_law : (c places : List ℕ) (n : ℕ) → length c ≤ 255 → AllBytes c → IsStrictlyIncreasing places → length places ≤ n

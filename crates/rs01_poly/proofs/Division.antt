@@ -41,11 +41,11 @@ divided_once a b f (x ∷ g) (y ∷ p) z hb hf hz hg h e =
     ap (λ v. horner v p z) (sym (one_place a b f x y z hb hf hz))
     ∙ divided_once (bit_xor (times a z) (bit_xor (times f x) y)) (bit_xor (times b z) x) f g p z hv hf hz (λ k. hg (suc k)) (omega arith) e
 
-AllBytes-step : (f : ℕ) (g p : List ℕ) → AllBytes g → AllBytes (f ∷ p) → length g ≤ length p → AllBytes (add_front (scale f g) p)
+pub AllBytes-step : (f : ℕ) (g p : List ℕ) → AllBytes g → AllBytes (f ∷ p) → length g ≤ length p → AllBytes (add_front (scale f g) p)
 AllBytes-step f g p hg hp h =
     AllBytes-add_front (scale f g) p (omega (arith, length-map g (times f))) (AllBytes-scale f g (hp 0) hg) (λ k. hp (suc k))
 
-length-step : (f : ℕ) (g p : List ℕ) → length (add_front (scale f g) p) ≡ length p
+pub length-step : (f : ℕ) (g p : List ℕ) → length (add_front (scale f g) p) ≡ length p
 length-step f g p = length-add_front (scale f g) p
 
 pub length-remainder : (n : ℕ) (g p : List ℕ) → n ≤ length p → length (remainder n g p) ≡ length p - n
@@ -100,12 +100,12 @@ generator_vanishes (suc r) j h =
     ap (λ v. times v (value_at (generator r) (root j))) none ∙ zero-times (value_at (generator r) (root j)))
     (cases_lt j r)
 
-AllBytes-lower : (r : ℕ) → AllBytes (lower (generator r))
+pub AllBytes-lower : (r : ℕ) → AllBytes (lower (generator r))
 AllBytes-lower r k =
     let tail : AllBytes (1 ∷ lower (generator r)) = (λ (j : ℕ). rw (← generator-monic r) (AllBytes-generator r j)) in
     tail (suc k)
 
-AllBytes-zeros : (n : ℕ) → AllBytes (replicate n 0)
+pub AllBytes-zeros : (n : ℕ) → AllBytes (replicate n 0)
 AllBytes-zeros zero k = omega arith
 AllBytes-zeros (suc n) zero = omega arith
 AllBytes-zeros (suc n) (suc k) = AllBytes-zeros n k

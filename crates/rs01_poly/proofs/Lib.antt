@@ -2,5 +2,6 @@ pub mod Coefficients
 pub mod Values
 pub mod CodeLaws
 pub mod Division
-pub mod Vanish
+pub mod Linear
+pub mod Syndromes
 pub mod Difference

@@ -1,7 +1,10 @@
 -- The value of a polynomial: of sums, multiples and products, and as a sum of powers.
-use Rattle.std.proofs.Common.{◌≡◌, ℕ, zero, suc, ◌^◌, ◌<◌, ◌≤◌, List, [], ◌∷◌, ◌++◌, length, get_or, refl, sym, ap, ◌∙◌, arith, bit_xor, length-append}
+use Rattle.std.proofs.Common.{◌≡◌, ℕ, zero, suc, ◌^◌, ◌<◌, ◌≤◌, List, [], ◌∷◌, ◌++◌, length, get_or, refl, sym, ap, ◌∙◌, arith, bit_xor, length-append, ⊎_elim}
+use Rattle.std.specs.Prelude.{All}
+use Rattle.std.proofs.lemmas.Bool.{cases_lt}
 use Rattle.std.proofs.lemmas.Nat.{xor_comm, xor_lt}
-use Rattle.std.proofs.lemmas.List.{length-map}
+use Rattle.std.proofs.lemmas.List.{length-map, get_or_past}
+use Rattle.std.proofs.lemmas.List.Elements.{All-get_or, All-from_get_or}
 use Rattle.std.specs.Int.Bits.{xor_assoc, xor_zero_r}
 use Rattle.rs01_gf256.specs.Field.{times, power}
 use Rattle.rs01_gf256.proofs.Laws.{xor_swap, times-xor_left, times-xor_right, times-assoc, times-comm, zero-times, times-zero, one-times}
@@ -12,6 +15,13 @@ use Rattle.rs01_poly.proofs.Coefficients.{get_or-add_front, get_or-scale}
 -- each coefficient is a byte
 abbrev pub AllBytes : List ℕ → Type 0
 AllBytes p = (k : ℕ) → get_or p k 0 < 2 ^ 8
+
+pub bytes_of_all : (p : List ℕ) → All (λ b. b < 2 ^ 8) p → AllBytes p
+bytes_of_all p h k =
+    ⊎_elim (λ l. All-get_or (λ b. b < 2 ^ 8) p k 0 l h) (λ g. rw (get_or_past p k 0 g) (omega arith)) (cases_lt k (length p))
+
+pub all_of_bytes : (p : List ℕ) → AllBytes p → All (λ b. b < 2 ^ 8) p
+all_of_bytes p h = All-from_get_or (λ b. b < 2 ^ 8) p 0 (λ k l. h k)
 
 pub times-one : (x : ℕ) → x < 2 ^ 8 → times x 1 ≡ x
 times-one x h = times-comm x 1 h (omega arith) ∙ one-times x h

@@ -19,9 +19,13 @@ abbrev pub lower : List ℕ → List ℕ
 lower [] = []
 lower (x ∷ p) = p
 
+-- syndrome j of the word c: the value of its polynomial at root j
+abbrev pub syndrome : List ℕ → ℕ → ℕ
+syndrome c j = value_at c (root j)
+
 -- the polynomial c is zero at the first n roots
 abbrev pub VanishesAtRoots : List ℕ → ℕ → Type 0
-VanishesAtRoots c n = (j : ℕ) → j < n → value_at c (root j) ≡ 0
+VanishesAtRoots c n = (j : ℕ) → j < n → syndrome c j ≡ 0
 
 -- a codeword with r parity bytes: 255 bytes whose polynomial is zero at the first r roots
 pub record IsCodeword (c : List ℕ) (r : ℕ) : Type 0 where

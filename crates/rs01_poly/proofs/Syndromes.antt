@@ -1,6 +1,7 @@
--- Power sums: for pairs (y, x) the sum of all y * x^j. Where the x differ and the sums vanish for as many j as there
--- are pairs, every y is zero. By induction on the pairs: c times each sum added to the next sum gives the sums in
--- which each y is multiplied by x + c, so that the pair with x = c is gone.
+-- The syndromes of pairs (y, x) of a value and its locator: for each j the sum of all y * x^j. Where the x differ and
+-- the syndromes are zero for as many j as there are pairs, every y is zero. By induction on the pairs: c times each
+-- syndrome added to the next one gives the syndromes in which each y is multiplied by x + c, so that the pair with
+-- x = c is gone.
 use Rattle.std.proofs.Common.{◌≡◌, ℕ, zero, suc, ◌%◌, ◌^◌, ◌<◌, List, [], ◌∷◌, length, refl, sym, ap, ◌∙◌, arith, bit_xor, ⊎_elim}
 use Rattle.std.proofs.lemmas.Nat.{xor_mod}
 use Rattle.std.specs.Int.Bits.{xor_assoc, xor_zero_r, xor_self}
@@ -13,8 +14,8 @@ use Rattle.rs01_poly.proofs.Values.{times-one}
 pub mul : ℕ → ℕ → ℕ
 mul x y = times (x % 2 ^ 8) (y % 2 ^ 8)
 
-abbrev pub IsNil : ℕ → Type 0
-IsNil x = x % 2 ^ 8 ≡ 0
+abbrev pub IsZeroByte : ℕ → Type 0
+IsZeroByte x = x % 2 ^ 8 ≡ 0
 
 byte_below : (x : ℕ) → x % 2 ^ 8 < 2 ^ 8
 byte_below x = omega arith
@@ -45,15 +46,15 @@ dist : (x y z : ℕ) → mul x (bit_xor y z) ≡ bit_xor (mul x y) (mul x z)
 unfolding mul
 dist x y z = ap (times (x % 2 ^ 8)) (xor_mod y z 8) ∙ times-xor_right (x % 2 ^ 8) (y % 2 ^ 8) (z % 2 ^ 8)
 
-nil_mul : (y p : ℕ) → IsNil y → mul y p ≡ 0
+zero_mul : (y p : ℕ) → IsZeroByte y → mul y p ≡ 0
 unfolding mul
-nil_mul y p e = ap (λ v. times v (p % 2 ^ 8)) e ∙ zero-times (p % 2 ^ 8)
+zero_mul y p e = ap (λ v. times v (p % 2 ^ 8)) e ∙ zero-times (p % 2 ^ 8)
 
-one_nil : (y : ℕ) → mul y 1 ≡ 0 → IsNil y
+zero_by_one : (y : ℕ) → mul y 1 ≡ 0 → IsZeroByte y
 unfolding mul
-one_nil y e = sym (times-one (y % 2 ^ 8) (byte_below y)) ∙ e
+zero_by_one y e = sym (times-one (y % 2 ^ 8) (byte_below y)) ∙ e
 
-no_divisor : (y d : ℕ) → IsNil (mul y d) → (IsNil d → ⊥) → IsNil y
+no_divisor : (y d : ℕ) → IsZeroByte (mul y d) → (IsZeroByte d → ⊥) → IsZeroByte y
 unfolding mul
 no_divisor y d e some =
     ⊎_elim (λ n. n) (λ n. absurd (some n))
@@ -67,9 +68,9 @@ unfoldable pub power_of : ℕ → ℕ → ℕ
 power_of x zero = 1
 power_of x (suc j) = mul x (power_of x j)
 
-unfoldable pub power_sum : ℕ → List (ℕ × ℕ) → ℕ
-power_sum j [] = 0
-power_sum j (p ∷ ps) = bit_xor (mul p.0 (power_of p.1 j)) (power_sum j ps)
+unfoldable pub pairs_syndrome : ℕ → List (ℕ × ℕ) → ℕ
+pairs_syndrome j [] = 0
+pairs_syndrome j (p ∷ ps) = bit_xor (mul p.0 (power_of p.1 j)) (pairs_syndrome j ps)
 
 moved : ℕ → ℕ × ℕ → ℕ × ℕ
 moved c p = (mul p.0 (bit_xor p.1 c), p.1)
@@ -80,15 +81,15 @@ shifted c (p ∷ ps) = moved c p ∷ shifted c ps
 
 unfoldable pub DiffersFromAll : ℕ → List (ℕ × ℕ) → Type 0
 DiffersFromAll c [] = Unit {0}
-DiffersFromAll c (p ∷ ps) = (IsNil (bit_xor p.1 c) → ⊥) × DiffersFromAll c ps
+DiffersFromAll c (p ∷ ps) = (IsZeroByte (bit_xor p.1 c) → ⊥) × DiffersFromAll c ps
 
 unfoldable pub AllDiffer : List (ℕ × ℕ) → Type 0
 AllDiffer [] = Unit {0}
 AllDiffer (p ∷ ps) = DiffersFromAll p.1 ps × AllDiffer ps
 
-unfoldable pub AllNil : List (ℕ × ℕ) → Type 0
-AllNil [] = Unit {0}
-AllNil (p ∷ ps) = IsNil p.0 × AllNil ps
+unfoldable pub AllZero : List (ℕ × ℕ) → Type 0
+AllZero [] = Unit {0}
+AllZero (p ∷ ps) = IsZeroByte p.0 × AllZero ps
 
 mul_zero : (c : ℕ) → mul c 0 ≡ 0
 mul_zero c = dist c 0 0 ∙ xor_self (mul c 0)
@@ -103,18 +104,18 @@ one_term y x c p =
     ∙ dist y (mul x p) (mul c p)
     ∙ ap (bit_xor (mul y (mul x p))) (past y c p)
 
-shift_sum : (c j : ℕ) (ps : List (ℕ × ℕ)) → power_sum j (shifted c ps) ≡ bit_xor (power_sum (suc j) ps) (mul c (power_sum j ps))
-unfolding power_sum shifted moved power_of
-shift_sum c j [] = sym (mul_zero c)
-shift_sum c j (p ∷ ps) =
-    (λ i. bit_xor (one_term p.0 p.1 c (power_of p.1 j) i) (shift_sum c j ps i))
-    ∙ xor_swap (mul p.0 (mul p.1 (power_of p.1 j))) (mul c (mul p.0 (power_of p.1 j))) (power_sum (suc j) ps) (mul c (power_sum j ps))
-    ∙ ap (bit_xor (bit_xor (mul p.0 (mul p.1 (power_of p.1 j))) (power_sum (suc j) ps))) (sym (dist c (mul p.0 (power_of p.1 j)) (power_sum j ps)))
+pairs_syndrome-shifted : (c j : ℕ) (ps : List (ℕ × ℕ)) → pairs_syndrome j (shifted c ps) ≡ bit_xor (pairs_syndrome (suc j) ps) (mul c (pairs_syndrome j ps))
+unfolding pairs_syndrome shifted moved power_of
+pairs_syndrome-shifted c j [] = sym (mul_zero c)
+pairs_syndrome-shifted c j (p ∷ ps) =
+    (λ i. bit_xor (one_term p.0 p.1 c (power_of p.1 j) i) (pairs_syndrome-shifted c j ps i))
+    ∙ xor_swap (mul p.0 (mul p.1 (power_of p.1 j))) (mul c (mul p.0 (power_of p.1 j))) (pairs_syndrome (suc j) ps) (mul c (pairs_syndrome j ps))
+    ∙ ap (bit_xor (bit_xor (mul p.0 (mul p.1 (power_of p.1 j))) (pairs_syndrome (suc j) ps))) (sym (dist c (mul p.0 (power_of p.1 j)) (pairs_syndrome j ps)))
 
-nil_sum : (j : ℕ) (ps : List (ℕ × ℕ)) → AllNil ps → power_sum j ps ≡ 0
-unfolding power_sum AllNil
-nil_sum j [] a = refl
-nil_sum j (p ∷ ps) a = (λ i. bit_xor (nil_mul p.0 (power_of p.1 j) a.0 i) (nil_sum j ps a.1 i))
+pairs_syndrome-zeros : (j : ℕ) (ps : List (ℕ × ℕ)) → AllZero ps → pairs_syndrome j ps ≡ 0
+unfolding pairs_syndrome AllZero
+pairs_syndrome-zeros j [] a = refl
+pairs_syndrome-zeros j (p ∷ ps) a = (λ i. bit_xor (zero_mul p.0 (power_of p.1 j) a.0 i) (pairs_syndrome-zeros j ps a.1 i))
 
 length_shifted : (c : ℕ) (ps : List (ℕ × ℕ)) → length (shifted c ps) ≡ length ps
 unfolding shifted
@@ -131,22 +132,22 @@ unfolding AllDiffer shifted moved
 apart_shifted c [] a = tt
 apart_shifted c (p ∷ ps) a = (all_shifted p.1 c ps a.0, apart_shifted c ps a.1)
 
-unshift : (c : ℕ) (ps : List (ℕ × ℕ)) → DiffersFromAll c ps → AllNil (shifted c ps) → AllNil ps
-unfolding AllNil DiffersFromAll shifted moved
+unshift : (c : ℕ) (ps : List (ℕ × ℕ)) → DiffersFromAll c ps → AllZero (shifted c ps) → AllZero ps
+unfolding AllZero DiffersFromAll shifted moved
 unshift c [] a n = tt
 unshift c (p ∷ ps) a n = (no_divisor p.0 (bit_xor p.1 c) n.0 a.0, unshift c ps a.1 n.1)
 
-pub vanish : (n : ℕ) (ps : List (ℕ × ℕ)) → length ps ≡ n → AllDiffer ps → ((j : ℕ) → j < n → power_sum j ps ≡ 0) → AllNil ps
-unfolding AllNil AllDiffer power_sum power_of
-vanish n [] l a sums = tt
-vanish zero (p ∷ ps) l a sums = absurd (omega arith)
-vanish (suc n) (p ∷ ps) l a sums =
-    let rest : (j : ℕ) → j < suc n → power_sum j ps ≡ mul p.0 (power_of p.1 j) = λ j h. xor_same (mul p.0 (power_of p.1 j)) (power_sum j ps) (sums j h) in
-    let zero_sums : (j : ℕ) → j < n → power_sum j (shifted p.1 ps) ≡ 0 = λ j h.
-    shift_sum p.1 j ps
+pub vanish : (n : ℕ) (ps : List (ℕ × ℕ)) → length ps ≡ n → AllDiffer ps → ((j : ℕ) → j < n → pairs_syndrome j ps ≡ 0) → AllZero ps
+unfolding AllZero AllDiffer pairs_syndrome power_of
+vanish n [] l a syndromes = tt
+vanish zero (p ∷ ps) l a syndromes = absurd (omega arith)
+vanish (suc n) (p ∷ ps) l a syndromes =
+    let rest : (j : ℕ) → j < suc n → pairs_syndrome j ps ≡ mul p.0 (power_of p.1 j) = λ j h. xor_same (mul p.0 (power_of p.1 j)) (pairs_syndrome j ps) (syndromes j h) in
+    let later_zero : (j : ℕ) → j < n → pairs_syndrome j (shifted p.1 ps) ≡ 0 = λ j h.
+    pairs_syndrome-shifted p.1 j ps
     ∙ (λ i. bit_xor (rest (suc j) (omega arith) i) (mul p.1 (rest j (omega arith) i)))
     ∙ ap (bit_xor (mul p.0 (mul p.1 (power_of p.1 j)))) (sym (past p.0 p.1 (power_of p.1 j)))
     ∙ xor_self (mul p.0 (mul p.1 (power_of p.1 j))) in
-    let later : AllNil ps = unshift p.1 ps a.0 (vanish n (shifted p.1 ps) (length_shifted p.1 ps ∙ (omega arith)) (apart_shifted p.1 ps a.1) zero_sums) in
-    let here : mul p.0 1 ≡ 0 = sym (rest 0 (omega arith)) ∙ nil_sum 0 ps later in
-    (one_nil p.0 here, later)
+    let later : AllZero ps = unshift p.1 ps a.0 (vanish n (shifted p.1 ps) (length_shifted p.1 ps ∙ (omega arith)) (apart_shifted p.1 ps a.1) later_zero) in
+    let here : mul p.0 1 ≡ 0 = sym (rest 0 (omega arith)) ∙ pairs_syndrome-zeros 0 ps later in
+    (zero_by_one p.0 here, later)
