@@ -1,31 +1,20 @@
 -- The bytes of blocks, of a layer and of a codeword's data.
-use Rattle.std.proofs.Common.{◌≡◌, ℕ, ◌+◌, ◌-◌, ◌*◌, ◌<◌, ◌≤◌, ⊎_elim, zero, suc, List, [], length, get_or, take, drop, replicate, refl, sym, ap, ◌∙◌, arith, ltb, eqb, length-append}
-use Rattle.std.proofs.lemmas.List.{length-take, length-replicate, get_or_append_left, get_or-append_right, get_or_past, get_or-take, get_or-drop, length-map, get_or-map}
+use Rattle.std.proofs.Common.{◌≡◌, ℕ, ◌+◌, ◌-◌, ◌*◌, ◌<◌, ◌≤◌, ⊎_elim, List, [], length, get_or, take, drop, sym, ap, ◌∙◌, arith, ltb, eqb}
+use Rattle.std.proofs.lemmas.List.{length-take, get_or_past, get_or-take, get_or-drop, length-map, get_or-map}
 use Rattle.std.proofs.lemmas.Bool.{cases_lt, cases_eq, lt-ltb, le-ltb, eq-eqb, ne_eqb, cond-true, cond-false}
 use Rattle.std.proofs.lemmas.List.FromFn.{length-range_with_len, get_or-range_with_len}
-use Rattle.std.specs.List.{range_with_len}
-use Rattle.rs01_layers.specs.Sectors.{sectors_of, last_of, length_of, padded, block, sector}
-use Rattle.rs01_layers.specs.Layout.{number_at}
-use Rattle.rs01_layers.specs.Layer.{block_at, layer, column}
+use Rattle.std.specs.List.{flat_map, range_with_len}
+use Rattle.std.specs.Prelude.{None, Option, Some}
+use Rattle.rs01_lists.specs.Bytes.{part}
+use Rattle.rs01_lists.proofs.Flats.{flat_at, length-flat}
+use Rattle.rs01_lists.proofs.Ranges.{same_maps}
+use Rattle.std.specs.Option.{unwrap_or}
+use Rattle.rs01_layers.specs.Sectors.{sectors_of, last_of, length_of, block, sector}
+use Rattle.rs01_lists.specs.Bytes.{padded}
+use Rattle.rs01_lists.proofs.Padding.{get_or-padded, length-padded}
+use Rattle.rs01_layers.specs.Layout.{number_at, sector_at}
+use Rattle.rs01_layers.specs.Layer.{block_at, layer, layer_bytes, column}
 use Rattle.rs01_layers.specs.Blocks.{blocks_of}
-
-pub length-padded : (width : ℕ) (bytes : List ℕ) → length bytes ≤ width → length (padded width bytes) ≡ width
-unfolding padded
-length-padded width bytes h = omega (arith, length-append bytes (replicate (width - length bytes) 0), length-replicate {A = ℕ} (width - length bytes) 0)
-
-zero_at : (n k : ℕ) → get_or {A = ℕ} (replicate n 0) k 0 ≡ 0
-zero_at zero k = refl
-zero_at (suc n) zero = refl
-zero_at (suc n) (suc k) = zero_at n k
-
--- past the bytes there are zeros, which is what is read past the end of a list too
-pub get_or-padded : (width : ℕ) (bytes : List ℕ) (k : ℕ) → get_or (padded width bytes) k 0 ≡ get_or bytes k 0
-unfolding padded
-get_or-padded width bytes k =
-    ⊎_elim
-    (λ h. get_or_append_left bytes (replicate (width - length bytes) 0) 0 k h)
-    (λ h. get_or-append_right bytes (replicate (width - length bytes) 0) (length bytes) k 0 refl h ∙ zero_at (width - length bytes) (k - length bytes) ∙ sym (get_or_past bytes k 0 h))
-    (cases_lt k (length bytes))
 
 pub length-block : (file : List ℕ) (s n : ℕ) → n ≤ 2048 → length (block file s n) ≡ 2048
 unfolding block
@@ -158,3 +147,33 @@ pub get_or-column-blocks_of : (k : ℕ) (bytes : List ℕ) (b place : ℕ) → b
     → get_or (column (blocks_of k bytes) b) place 0 ≡ get_or bytes (2048 * place + b) 0
 get_or-column-blocks_of k bytes b place below h =
     get_or-column (blocks_of k bytes) b place (let n = length-blocks_of k bytes in omega (arith, n)) ∙ get_or-blocks_of k bytes place b h below
+
+-- the block at a place that has a sector, and at one that has none
+pub block_of_sector : (image : List ℕ) (r l place s : ℕ) → sector_at (sectors_of (length image)) r l place ≡ Some s → block_at image r l place ≡ sector image s
+block_of_sector image r l place s e =
+    let n = sectors_of (length image) in
+    let m = number_at n r l place in
+    ⊎_elim
+    (λ h. block_at-sector image r l place h ∙ ap (λ o. sector image (unwrap_or o 0)) (sym (cond-true (ltb m n) (Some m) None (lt-ltb m n h)) ∙ e))
+    (λ h. let none : let o : Option ℕ = None in o ≡ Some s = sym (cond-false (ltb m n) (Some m) None (le-ltb m n h)) ∙ e in cc)
+    (cases_lt m n)
+
+pub block_of_padding : (image : List ℕ) (r l place : ℕ) → sector_at (sectors_of (length image)) r l place ≡ None → block_at image r l place ≡ padded 2048 []
+block_of_padding image r l place e =
+    let n = sectors_of (length image) in
+    let m = number_at n r l place in
+    ⊎_elim
+    (λ h. let some : let o : Option ℕ = Some m in o ≡ None = sym (cond-true (ltb m n) (Some m) None (lt-ltb m n h)) ∙ e in cc)
+    (λ h. block_at-padding image r l place h)
+    (cases_lt m n)
+
+-- the blocks of a layer as one list of bytes
+pub length-layer_bytes : (image : List ℕ) (r l : ℕ) → length (layer_bytes image r l) ≡ 2048 * (255 - r)
+unfolding layer_bytes
+length-layer_bytes image r l = length-flat (block_at image r l) 2048 (255 - r) (λ p h. length-block_at image r l p)
+
+pub blocks_of-layer_bytes : (image : List ℕ) (r l : ℕ) → blocks_of (255 - r) (layer_bytes image r l) ≡ layer image r l
+unfolding blocks_of layer_bytes layer
+blocks_of-layer_bytes image r l =
+    same_maps (λ p. part (flat_map (block_at image r l) (range_with_len 0 (255 - r))) (2048 * p) 2048) (block_at image r l) (255 - r)
+    (λ p h. flat_at (block_at image r l) 2048 (255 - r) p (λ k below. length-block_at image r l k) h)

@@ -1,7 +1,8 @@
 -- The data blocks of a layer, and the bytes of its codewords.
 use Rattle.std.specs.Prelude.{ℕ, ◌-◌, nat_lt, if◌then◌else◌, List, [], length, map, slice_index}
-use Rattle.std.specs.List.{range_with_len}
-use Rattle.rs01_layers.specs.Sectors.{sectors_of, sector, padded}
+use Rattle.std.specs.List.{flat_map, range_with_len}
+use Rattle.rs01_layers.specs.Sectors.{sectors_of, sector}
+use Rattle.rs01_lists.specs.Bytes.{padded}
 use Rattle.rs01_layers.specs.Layout.{number_at}
 
 -- the block at a place of a layer: a sector of the image, or zeros at padding
@@ -13,6 +14,10 @@ block_at image r l place =
 -- the data blocks of layer l, by place
 unfoldable pub layer : List ℕ → ℕ → ℕ → List (List ℕ)
 layer image r l = map (block_at image r l) (range_with_len 0 (255 - r))
+
+-- the same blocks, one after the other
+unfoldable pub layer_bytes : List ℕ → ℕ → ℕ → List ℕ
+layer_bytes image r l = flat_map (block_at image r l) (range_with_len 0 (255 - r))
 
 -- byte b of each block: the data of codeword b
 unfoldable pub column : List (List ℕ) → ℕ → List ℕ

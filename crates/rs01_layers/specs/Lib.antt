@@ -3,3 +3,5 @@ pub mod Layout
 pub mod Layer
 pub mod Placing
 pub mod Blocks
+pub mod Extents
+pub mod Outs

@@ -1,5 +1,6 @@
 -- How an image is cut into sectors of 2048 bytes.
-use Rattle.std.specs.Prelude.{ℕ, ◌+◌, ◌-◌, ◌*◌, ◌/◌, ◌==◌, if◌then◌else◌, List, ◌++◌, length, take, drop, replicate}
+use Rattle.std.specs.Prelude.{ℕ, ◌+◌, ◌-◌, ◌*◌, ◌/◌, ◌==◌, if◌then◌else◌, List, length}
+use Rattle.rs01_lists.specs.Bytes.{padded, part}
 
 -- how many sectors an image of this many bytes has
 abbrev pub sectors_of : ℕ → ℕ
@@ -13,13 +14,9 @@ last_of bytes = bytes - 2048 * (sectors_of bytes - 1)
 abbrev pub length_of : ℕ → ℕ → ℕ → ℕ
 length_of count last s = if s + 1 == count then last else 2048
 
--- bytes, followed by zeros up to a width
-unfoldable pub padded : ℕ → List ℕ → List ℕ
-padded width bytes = bytes ++ replicate (width - length bytes) 0
-
 -- the n bytes of a file from the start of sector s on, fewer where the file ends, and then zeros up to 2048 bytes
 unfoldable pub block : List ℕ → ℕ → ℕ → List ℕ
-block file s n = padded 2048 (take n (drop (2048 * s) file))
+block file s n = padded 2048 (part file (2048 * s) n)
 
 -- sector s of an image, as a block
 abbrev pub sector : List ℕ → ℕ → List ℕ

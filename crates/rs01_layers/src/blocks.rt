@@ -1,22 +1,16 @@
 //! Blocks and codeword columns of an image that is held whole.
 
-ghost use Rattle.std.specs.Prelude.{◌≡◌, ℕ, ◌+◌, ◌-◌, ◌*◌, ◌<◌, ◌≤◌, length, take, drop, slice_index};
+ghost use Rattle.std.specs.Prelude.{◌≡◌, ℕ, ◌+◌, ◌-◌, ◌*◌, ◌<◌, ◌≤◌, ◌++◌, OnOk, length, take, drop, slice_index};
 ghost use Rattle.rs01_layers.specs.Blocks.{blocks_of};
-ghost use Rattle.rs01_layers.specs.Sectors.{block, padded, sectors_of};
+ghost use Rattle.rs01_layers.specs.Sectors.{block};
 ghost use Rattle.rs01_layers.specs.Layout.{layers_of};
-ghost use Rattle.rs01_layers.specs.Layer.{column, layer as blocks_of_layer};
+ghost use Rattle.rs01_layers.specs.Extents.{IsExtentOf};
+ghost use Rattle.rs01_layers.specs.Layer.{block_at, column, layer_bytes};
 
+use crate::extent::Extent;
 use crate::shape::Shape;
-
-/// Writes bytes into the front of a buffer, and zeros behind them.
-pub fn copy_padded(bytes: &[u8], into: &mut [u8])
-    requires { length bytes.now ≤ length into.old }
-    ensures { into.new ≡ padded (length into.old) bytes.now }
-{
-    let (front, rest) = into.split_at_mut(bytes.len());
-    front.copy_from_slice(bytes);
-    rest.fill(0);
-}
+use rs01_lists::{copy_padded, push_padded};
+use std::alloc::AllocError;
 
 // At most `most` bytes of a list from `from` on, fewer where it ends.
 fn part(bytes: &[u8], from: usize, most: usize) -> &[u8]
@@ -36,28 +30,64 @@ pub fn block_into(image: &[u8], sector: u32, length: u32, into: &mut [u8; 2048])
     copy_padded(bytes, into);
 }
 
-// The byte of a list at a place, and 0 past its end.
-fn byte_at(bytes: &[u8], at: usize) -> u8
-    ensures { result ≡ slice_index bytes.now at }
+/// Puts the block of a sector behind what is there: its first `length` bytes in the image, fewer
+/// where the image ends, and zeros up to 2048 bytes.
+pub fn push_block(
+    image: &[u8],
+    sector: u32,
+    length: u32,
+    out: &mut Vec<u8>,
+) -> Result<(), AllocError>
+    requires { length ≤ 2048 }
+    ensures { OnOk result (out.new.items ≡ out.old.items ++ block image.now sector length) }
 {
-    if at < bytes.len() { bytes[at] } else { 0 }
+    let bytes = part(image, 2048 * sector as usize, length as usize);
+    push_padded(bytes, 2048, out)?;
+    Ok(())
 }
 
-/// Writes the data of a codeword, 0 to 2047, of a layer: its byte of each of the layer's blocks.
-///
-/// Padding gives zeros. The buffer has a byte for each place.
-pub fn column_into(image: &[u8], shape: &Shape, layer: u32, codeword: u32, into: &mut [u8])
-    requires sectors { sectors_of (length image.now) ≡ shape.now.sectors }
+// Puts the block at a place of a layer behind what is there.
+fn push_place(
+    image: &[u8],
+    extent: &Extent,
+    shape: &Shape,
+    layer: u32,
+    place: u32,
+    out: &mut Vec<u8>,
+) -> Result<(), AllocError>
+    requires extent { IsExtentOf image.now extent.now }
+    requires shape { shape.now.sectors ≡ extent.now.sectors }
     requires layer { layer < layers_of shape.now.sectors shape.now.parity }
-    requires codeword { codeword < 2048 }
-    requires room { length into.old ≡ 255 - shape.now.parity }
-    ensures { into.new ≡ column (blocks_of_layer image.now shape.now.parity layer) codeword }
+    requires place { place < 255 - shape.now.parity }
+    ensures { let r = shape.now.parity in
+        OnOk result (out.new.items ≡ out.old.items ++ block_at image.now r layer place) }
 {
-    let layers = shape.layers() as usize;
-    for (place, byte) in into.iter_mut().enumerate() {
-        let sector = layer as usize + place * layers;
-        *byte = byte_at(image, 2048 * sector + codeword as usize);
+    match shape.sector_at(layer, place) {
+        Some(sector) => push_block(image, sector, extent.length(sector), out)?,
+        None => push_padded(&[], 2048, out)?,
     }
+    Ok(())
+}
+
+/// Puts the blocks of a layer behind what is there, by place: the sectors of an image that is held
+/// whole, padded to 2048 bytes, and blocks of zeros at padding.
+pub fn push_layer(
+    image: &[u8],
+    extent: &Extent,
+    shape: &Shape,
+    layer: u32,
+    out: &mut Vec<u8>,
+) -> Result<(), AllocError>
+    requires extent { IsExtentOf image.now extent.now }
+    requires shape { shape.now.sectors ≡ extent.now.sectors }
+    requires layer { layer < layers_of shape.now.sectors shape.now.parity }
+    ensures { let bytes = layer_bytes image.now shape.now.parity layer in
+        OnOk result (out.new.items ≡ out.old.items ++ bytes) }
+{
+    for place in 0..shape.data() {
+        push_place(image, extent, shape, layer, place, out)?;
+    }
+    Ok(())
 }
 
 /// Writes the data of a codeword, 0 to 2047, of blocks of 2048 bytes that stand one after the

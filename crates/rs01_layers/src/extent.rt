@@ -18,7 +18,8 @@ impl Extent {
     /// its sectors passes a `u32`.
     pub fn of_len(len: u64) -> Option<Extent>
         ensures none { IsNone result ↔ ((len ≡ 0) ⊎ (2 ^ 32 ≤ sectors_of len)) }
-        ensures some { IfSome result (λ extent. (extent.sectors ≡ sectors_of len) × (extent.last_bytes ≡ last_of len)) }
+        ensures some { IfSome result (λ extent. (extent.sectors ≡ sectors_of len)
+            × (extent.last_bytes ≡ last_of len)) }
     {
         if len == 0 {
             return None;

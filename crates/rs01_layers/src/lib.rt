@@ -2,15 +2,15 @@
 //! layer's work is given and gives.
 #![tactic(auto)]
 
-pub mod blocks;
-pub mod extent;
-pub mod input;
+mod blocks;
+mod extent;
+mod input;
 pub mod laws;
-pub mod lists;
-pub mod shape;
-pub mod task;
+mod lists;
+mod shape;
+mod task;
 
-pub use blocks::{block_into, column_into, column_of_blocks_into, copy_padded};
+pub use blocks::{block_into, column_of_blocks_into, push_block, push_layer};
 pub use extent::Extent;
 pub use input::LayerInput;
 pub use lists::{Bytes, Flags, Placed, PlacedList, SumList};

@@ -1,6 +1,7 @@
 //! What is done to each layer.
 
 ghost use Rattle.std.specs.Prelude.{◌≡◌, IfOk};
+ghost use Rattle.rs01_layers.specs.Outs.{parity_in};
 
 use crate::input::LayerInput;
 use crate::lists::{Bytes, PlacedList};
@@ -19,6 +20,18 @@ pub enum LayerOut {
     Inconsistent(u32),
     /// The first place whose restored block has not its recorded checksum.
     BadSum(u32),
+}
+
+impl LayerOut {
+    /// The parity bytes, where these were given.
+    pub fn into_parity(self) -> Option<Bytes>
+        ensures { result ≡ parity_in self }
+    {
+        match self {
+            LayerOut::Parity(bytes) => Some(bytes),
+            _ => None,
+        }
+    }
 }
 
 /// Work on layers, each by itself. What it gives depends on the type of the task and on the input

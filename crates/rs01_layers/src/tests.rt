@@ -1,5 +1,6 @@
 //! Shapes and extents by their numbers.
 use super::*;
+use std::alloc::Global;
 use std::process::Abort;
 use std::test::Fail;
 
@@ -82,26 +83,43 @@ fn extents(rt: HostRuntime) {
     }
 }
 
-// The columns of a shape over a short image.
-fn column_start(rt: &impl Abort, image: &[u8], two: &Shape, codeword: u32) -> (u8, u8, u8, u8) {
-    let mut bytes = [1u8; 223];
-    assert_eq!(rt; image.len(), 2049);
-    assert_eq!(rt; (two.sectors(), two.data(), two.layers()), (2, 223, 1));
-    assert!(rt; codeword < 2048);
-    column_into(image, two, 0, codeword, &mut bytes);
-    (bytes[0], bytes[1], bytes[2], bytes[222])
-}
-
+// The first bytes of the blocks of a layer of two sectors, the second of one byte, and of its padding.
 #[test]
-fn bytes_of_a_short_image(rt: HostRuntime) -> Result<(), Fail> {
+fn blocks_of_a_short_image(rt: HostRuntime) -> Result<(), Fail> {
     let mut image = vec![in rt.alloc(); 7u8; 2049]?;
     image[2048] = 9;
     let mut block = [1u8; 2048];
     block_into(image.as_slice(), 1, 1, &mut block);
     assert_eq!(rt; (block[0], block[1], block[2047]), (9, 0, 0));
+    let mut out = Vec::new(rt.alloc());
+    push_block(image.as_slice(), 1, 1, &mut out)?;
+    assert_eq!(rt; (out.len(), out[0], out[1]), (2048, 9, 0));
+    let extent = Extent::of_len(2049);
     let two = shape(2, 32)?;
-    assert_eq!(rt; column_start(&rt, image.as_slice(), &two, 0), (7, 9, 0, 0));
-    assert_eq!(rt; column_start(&rt, image.as_slice(), &two, 1), (7, 0, 0, 0));
+    if let Some(extent) = extent {
+        layer_of_two(&rt, rt.alloc(), image.as_slice(), &extent, &two)?;
+    }
+    Ok(())
+}
+
+fn layer_of_two(
+    rt: &impl Abort,
+    alloc: Global,
+    image: &[u8],
+    extent: &Extent,
+    two: &Shape,
+) -> Result<(), Fail> {
+    assert_eq!(rt;
+        (image.len(), extent.sectors, extent.last_bytes),
+        (2049, 2, 1)
+    );
+    assert_eq!(rt; (two.sectors(), two.data(), two.layers()), (2, 223, 1));
+    let mut out = Vec::new(alloc);
+    push_layer(image, extent, two, 0, &mut out)?;
+    assert_eq!(rt; out.len(), 2048 * 223);
+    for (at, byte) in [(0usize, 7u8), (2047, 7), (2048, 9), (2049, 0), (4096, 0)] {
+        assert_eq!(rt; out.get(at).copied(), Some(byte));
+    }
     Ok(())
 }
 

@@ -1,6 +1,7 @@
 -- Named files, and what each call of a desk leaves of them and answers.
-use Rattle.std.specs.Prelude.{ℕ, ◌+◌, ◌-◌, ◌≡◌, ◌≢◌, ◌⊎◌, List, [], ◌++◌, length, take, drop, replicate, min, Option, Some, Result, Ok, Err}
+use Rattle.std.specs.Prelude.{ℕ, ◌+◌, ◌-◌, ◌≡◌, ◌≢◌, ◌⊎◌, List, [], ◌++◌, length, take, drop, min, Option, Some, Result, Ok, Err}
 use Rattle.std.specs.Option.{option_map, unwrap_or}
+use Rattle.rs01_lists.specs.Bytes.{padded}
 
 -- the bytes of each name's file, where the name is there
 abbrev pub Files : Type 0
@@ -19,17 +20,13 @@ pub record Becomes (name file : List ℕ) (old new : Files) : Type 0 where
   pub there : new name ≡ Some file
   pub elsewhere : SameElsewhere name old new
 
--- bytes made at least so long, by zeros at the end
-abbrev pub padded : List ℕ → ℕ → List ℕ
-padded bytes end = bytes ++ replicate (end - length bytes) 0
-
 -- bytes put over those at a place
 abbrev pub over : List ℕ → ℕ → List ℕ → List ℕ
 over old at bytes = take at old ++ bytes ++ drop (at + length bytes) old
 
 -- bytes put at a place of a file, which is first made long enough by zeros
 abbrev pub put_at : List ℕ → ℕ → List ℕ → List ℕ
-put_at old at bytes = over (padded old (at + length bytes)) at bytes
+put_at old at bytes = over (padded (at + length bytes) old) at bytes
 
 -- a size is that of the named file, and none where the name isn't there
 abbrev pub SizeIs : Files → List ℕ → Option ℕ → Type 0

@@ -1,4 +1,6 @@
 pub mod Causes
 pub mod Files
+pub mod DeskState
 pub mod DriveView
-pub mod Taken
+pub mod DriveState
+pub mod SinkState

@@ -1,7 +1,7 @@
 //! Named files.
-ghost use Rattle.std.specs.Prelude.{◌≡◌, ◌≤◌, ℕ, Bool, IfOk, IsTrue, length};
-ghost use Rattle.rs01_outside.specs.Causes.{HasCause};
-ghost use Rattle.rs01_outside.specs.Files.{Cuts, Files, Makes, ReadsAt, SizeIs, WritesAt};
+ghost use Rattle.std.specs.Prelude.{◌≡◌, ◌≤◌, IfOk, IsTrue, is_err, length};
+ghost use Rattle.rs01_outside.specs.DeskState.{DeskState, OnlyChanges, OnlyReads};
+ghost use Rattle.rs01_outside.specs.Files.{Cuts, Makes, ReadsAt, SizeIs, WritesAt};
 
 use crate::Failed;
 
@@ -10,68 +10,48 @@ use crate::Failed;
 /// Places and lengths are in bytes. A desk that tells its files goes on doing so, and one that
 /// doesn't never begins to.
 pub trait Desk {
-    /// Whether the desk tells its files.
-    ghost tells: { Self → Bool };
-
-    /// The files, where the desk tells them.
-    ghost files: { Self → Files };
-
-    /// How often `size` and `read_at` have failed, up to the last value of a `u64`.
-    ghost read_faults: { Self → ℕ };
-
-    /// How often `write_at`, `make` and `cut` have failed, up to the last value of a `u64`.
-    ghost write_faults: { Self → ℕ };
+    /// What the desk tells of itself: its files, and its two counts of faults.
+    ghost state: { Self → DeskState };
 
     /// The length of a file, and `None` exactly where the name isn't there.
     fn size(&mut self, name: &str) -> Result<Option<u64>, Failed>
-        ensures tells { tells self.new ≡ tells self.old }
-        ensures unchanged { IsTrue (tells self.old) → files self.new ≡ files self.old }
-        ensures size { IsTrue (tells self.old) → IfOk result (SizeIs (files self.old) name.now) }
-        ensures cause { HasCause (read_faults self.old) (read_faults self.new) result }
-        ensures writes { write_faults self.new ≡ write_faults self.old };
+        ensures reads { OnlyReads (state self.old) (state self.new) (is_err result) }
+        ensures size { IsTrue (state self.old).tells
+            → IfOk result (SizeIs (state self.old).files name.now) };
 
     /// Fills `into` with the bytes from a place on, and says how many it took: fewer than asked only
     /// at the file's end, and 0 where the name isn't there. After a failure `into` holds anything.
     fn read_at(&mut self, name: &str, at: u64, into: &mut [u8]) -> Result<usize, Failed>
-        ensures tells { tells self.new ≡ tells self.old }
-        ensures unchanged { IsTrue (tells self.old) → files self.new ≡ files self.old }
+        ensures reads { OnlyReads (state self.old) (state self.new) (is_err result) }
         ensures bound { IfOk result (λ count. count ≤ length into.old) }
-        ensures bytes { IsTrue (tells self.old)
-            → IfOk result (ReadsAt (files self.old) name.now at into.new) }
-        ensures cause { HasCause (read_faults self.old) (read_faults self.new) result }
-        ensures writes { write_faults self.new ≡ write_faults self.old };
+        ensures bytes { IsTrue (state self.old).tells
+            → IfOk result (ReadsAt (state self.old).files name.now at into.new) };
 
     /// Puts bytes at a place. A name that isn't there is made first, and a gap before the place
     /// becomes zeros. After a failure all is as before, or some first bytes are in place.
     fn write_at(&mut self, name: &str, at: u64, bytes: &[u8]) -> Result<(), Failed>
-        ensures tells { tells self.new ≡ tells self.old }
-        ensures written { IsTrue (tells self.old)
-            → WritesAt (files self.old) (files self.new) name.now at bytes.now result }
-        ensures cause { HasCause (write_faults self.old) (write_faults self.new) result }
-        ensures reads { read_faults self.new ≡ read_faults self.old };
+        ensures changes { OnlyChanges name.now (state self.old) (state self.new) (is_err result) }
+        ensures written { IsTrue (state self.old).tells
+            → WritesAt (state self.old).files (state self.new).files name.now at bytes.now result };
 
     /// Leaves the empty file under a name. After a failure all is as before, or as after success.
     fn make(&mut self, name: &str) -> Result<(), Failed>
-        ensures tells { tells self.new ≡ tells self.old }
-        ensures made { IsTrue (tells self.old)
-            → Makes (files self.old) (files self.new) name.now result }
-        ensures cause { HasCause (write_faults self.old) (write_faults self.new) result }
-        ensures reads { read_faults self.new ≡ read_faults self.old };
+        ensures changes { OnlyChanges name.now (state self.old) (state self.new) (is_err result) }
+        ensures made { IsTrue (state self.old).tells
+            → Makes (state self.old).files (state self.new).files name.now result };
 
     /// Keeps the first `len` bytes of a file. One that isn't longer stays, and so does an absent
     /// name. After a failure all is as before, or as after success.
     fn cut(&mut self, name: &str, len: u64) -> Result<(), Failed>
-        ensures tells { tells self.new ≡ tells self.old }
-        ensures cut { IsTrue (tells self.old)
-            → Cuts (files self.old) (files self.new) name.now len result }
-        ensures cause { HasCause (write_faults self.old) (write_faults self.new) result }
-        ensures reads { read_faults self.new ≡ read_faults self.old };
+        ensures changes { OnlyChanges name.now (state self.old) (state self.new) (is_err result) }
+        ensures cut { IsTrue (state self.old).tells
+            → Cuts (state self.old).files (state self.new).files name.now len result };
 
     /// How often `size` and `read_at` have failed.
     fn read_faults(&self) -> u64
-        ensures { result ≡ read_faults self.now };
+        ensures { result ≡ (state self.now).read_faults };
 
     /// How often `write_at`, `make` and `cut` have failed.
     fn write_faults(&self) -> u64
-        ensures { result ≡ write_faults self.now };
+        ensures { result ≡ (state self.now).write_faults };
 }

@@ -1,7 +1,7 @@
 //! Drives that read an optical disc.
-ghost use Rattle.std.specs.Prelude.{◌≡◌, ℕ, Bool, IsNone, IsTrue, not, slice_get};
-ghost use Rattle.rs01_outside.specs.Causes.{HasCause};
-ghost use Rattle.rs01_outside.specs.DriveView.{Counts, DriveView, Gives, answer_at, ask};
+ghost use Rattle.std.specs.Prelude.{◌≡◌, IsNone, IsTrue, is_err, not, slice_get};
+ghost use Rattle.rs01_outside.specs.DriveState.{Answers, DriveState};
+ghost use Rattle.rs01_outside.specs.DriveView.{Counts, Gives, answer_at, ask};
 
 use crate::Failed;
 
@@ -10,37 +10,29 @@ use crate::Failed;
 /// A drive that tells its view after a call told it before that call. It may stop, and never begins
 /// again.
 pub trait Drive: Drop {
-    /// Whether the drive tells its view.
-    ghost tells: { Self → Bool };
-
-    /// What the drive means, where it tells it.
-    ghost view: { Self → DriveView };
-
-    /// How often `sectors` and `read` have failed, up to the last value of a `u64`.
-    ghost faults: { Self → ℕ };
+    /// What the drive tells of itself: its view, and its count of faults.
+    ghost state: { Self → DriveState };
 
     /// The number of sectors.
     fn sectors(&mut self) -> Result<u32, Failed>
-        ensures told_before { IsTrue (tells self.new) → IsTrue (tells self.old) }
-        ensures unchanged { IsTrue (tells self.new) → view self.new ≡ view self.old }
-        ensures number { IsTrue (tells self.new) → Counts (view self.old) result }
-        ensures cause { HasCause (faults self.old) (faults self.new) result };
+        ensures answers { Answers (state self.old) (state self.new) (state self.old).view (is_err result) }
+        ensures number { IsTrue (state self.new).tells → Counts (state self.old).view result };
 
     /// Reads the block of a sector. After a failure `into` holds anything.
     fn read(&mut self, sector: u32, into: &mut [u8; 2048]) -> Result<(), Failed>
-        ensures told_before { IsTrue (tells self.new) → IsTrue (tells self.old) }
-        ensures asked { IsTrue (tells self.new) → view self.new ≡ ask (view self.old) sector }
-        ensures gives { IsTrue (tells self.new)
-            → Gives (answer_at (view self.old) sector) into.new result }
-        ensures cause { HasCause (faults self.old) (faults self.new) result };
+        ensures answers { let view = ask (state self.old).view sector in
+            Answers (state self.old) (state self.new) view (is_err result) }
+        ensures gives { IsTrue (state self.new).tells
+            → Gives (answer_at (state self.old).view sector) into.new result };
 
     /// The sector that was asked for at this place in the order of all asks, counted from 0. `None`
     /// where there were not so many asks, and always where the drive doesn't tell its view.
     fn asked_at(&self, i: u64) -> Option<u32>
-        ensures told { IsTrue (tells self.now) → result ≡ slice_get (view self.now).asked i }
-        ensures untold { IsTrue (not (tells self.now)) → IsNone result };
+        ensures told { IsTrue (state self.now).tells
+            → result ≡ slice_get (state self.now).view.asked i }
+        ensures untold { IsTrue (not (state self.now).tells) → IsNone result };
 
     /// How often `sectors` and `read` have failed.
     fn faults(&self) -> u64
-        ensures { result ≡ faults self.now };
+        ensures { result ≡ (state self.now).faults };
 }

@@ -1,7 +1,7 @@
 //! What lies outside the codec: named files, drives, a place for output, and a gate for workers.
 //!
-//! Each is a trait with a written meaning and a count of faults. An implementation says whether it
-//! tells its meaning (`tells`), and clauses on content hold where it does. Clauses on faults hold
+//! Each is a trait with one ghost `state`: whether it tells its meaning, the meaning, and its counts of
+//! faults. Clauses on content hold where it tells. Clauses on faults hold
 //! always: a call answers `Failed` only where a count rose in that call, or stands at the last value
 //! of its `u64`, a call that succeeds raises no count, and no count ever falls.
 #![tactic(auto)]

@@ -2,3 +2,4 @@ pub mod CrcLemmas
 pub mod MarkerLemmas
 mod ZeroLemmas
 mod TableLemmas
+mod ChecksumSteps

@@ -1,10 +1,10 @@
 -- A marker is a block, and tells its sector.
-use Rattle.std.proofs.Common.{◌≡◌, ℕ, zero, suc, ◌+◌, ◌-◌, ◌*◌, ◌/◌, ◌%◌, ◌^◌, ◌<◌, [], ◌∷◌, ◌++◌, length, replicate, refl, sym, ap, ◌∙◌, arith, length-append}
+use Rattle.std.proofs.Common.{◌≡◌, ℕ, zero, suc, ◌+◌, ◌-◌, ◌*◌, ◌/◌, ◌%◌, ◌^◌, ◌<◌, [], ◌∷◌, ◌++◌, length, refl, sym, ap, ◌∙◌, arith, length-append}
 use Rattle.std.proofs.lemmas.List.{append_cancel_left, append_cancel_right, length_push, same_from_push}
 use Rattle.std.proofs.Math.Nat.{pow-suc}
 use Rattle.std.specs.Prelude.{codes}
-use Rattle.rs01_layers.specs.Sectors.{padded}
-use Rattle.rs01_layers.proofs.BlockLemmas.{length-padded}
+use Rattle.rs01_lists.specs.Bytes.{padded, zeros}
+use Rattle.rs01_lists.proofs.Padding.{length-padded}
 use Rattle.rs01_sums.specs.Marker.{digits, marker_text, marker}
 use Rattle.rs01_sums.specs.Telling.{MarkerIsABlock, MarkerTellsSector}
 
@@ -42,8 +42,8 @@ same_digits (suc n) s t hs ht e =
 same_texts : (s t : ℕ) → marker s ≡ marker t → marker_text s ≡ marker_text t
 unfolding marker padded
 same_texts s t e =
-    append_cancel_right (marker_text s) (marker_text t) (replicate (2048 - length (marker_text s)) 0)
-    (e ∙ ap (λ n. marker_text t ++ replicate (2048 - n) 0) (length-marker_text t ∙ sym (length-marker_text s)))
+    append_cancel_right (marker_text s) (marker_text t) (zeros (2048 - length (marker_text s)))
+    (e ∙ ap (λ n. marker_text t ++ zeros (2048 - n)) (length-marker_text t ∙ sym (length-marker_text s)))
 
 pub marker_tells_sector : MarkerTellsSector
 unfolding marker_text

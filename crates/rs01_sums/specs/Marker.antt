@@ -1,6 +1,6 @@
 -- The marker of a missing sector.
 use Rattle.std.specs.Prelude.{ℕ, zero, suc, ◌+◌, ◌/◌, ◌%◌, List, [], ◌∷◌, ◌++◌, codes}
-use Rattle.rs01_layers.specs.Sectors.{padded}
+use Rattle.rs01_lists.specs.Bytes.{padded}
 
 -- the last n decimal digits of a number, with leading zeros
 unfoldable pub digits : ℕ → ℕ → List ℕ

@@ -46,18 +46,46 @@ fn after_each(start: u32, bytes: &[u8]) -> u32
     state
 }
 
-/// The CRC-32 of ISO/IEC 13239 of a list of bytes.
-///
-/// Eight bytes are taken at once.
-pub fn crc32(bytes: &[u8]) -> u32
-    ensures { result ≡ crc bytes.now }
+// The number after bytes of which eight are taken at once.
+fn after_all(start: u32, bytes: &[u8]) -> u32
+    ensures { result ≡ after_bytes start bytes.now }
 {
-    let mut state = u32::MAX;
+    let mut state = start;
     let mut rest = bytes;
     while rest.len() >= 8 {
         let (eight, later) = rest.split_at(8);
         state = after_eight(state, eight);
         rest = later;
     }
-    !after_each(state, rest)
+    after_each(state, rest)
+}
+
+/// The CRC-32 of ISO/IEC 13239 of a list of bytes.
+///
+/// Eight bytes are taken at once.
+pub fn crc32(bytes: &[u8]) -> u32
+    ensures { result ≡ crc bytes.now }
+{
+    !after_all(u32::MAX, bytes)
+}
+
+/// The checksums of two lists of bytes. They are taken side by side, which for lists of equal length
+/// takes much less time than one after the other.
+pub fn crc32_of_two(one: &[u8], other: &[u8]) -> (u32, u32)
+    ensures first { result.0 ≡ crc one.now }
+    ensures second { result.1 ≡ crc other.now }
+{
+    let mut first = u32::MAX;
+    let mut second = u32::MAX;
+    let mut front = one;
+    let mut back = other;
+    while front.len() >= 8 && back.len() >= 8 {
+        let (eight, later) = front.split_at(8);
+        let (other_eight, other_later) = back.split_at(8);
+        first = after_eight(first, eight);
+        second = after_eight(second, other_eight);
+        front = later;
+        back = other_later;
+    }
+    (!after_all(first, front), !after_all(second, back))
 }

@@ -3,7 +3,7 @@
 ghost use Rattle.std.specs.Prelude.{◌≡◌, ◌↔◌, ◌^◌, ◌<◌, IsTrue, length};
 ghost use Rattle.rs01_sums.specs.Marker.{digits, marker, marker_text};
 
-use rs01_layers::copy_padded;
+use rs01_lists::copy_padded;
 
 // The last decimal digits of a number, as many as there is room for.
 fn write_digits(number: u32, into: &mut [u8])

@@ -1,0 +1,4 @@
+pub mod Flats
+pub mod Padding
+pub mod Parts
+pub mod Ranges
