@@ -1,7 +1,7 @@
 //! The encoder that keeps its generator polynomial from codeword to codeword.
 
-ghost use Rattle.std.specs.Prelude.{◌≡◌, ℕ, ◌+◌, ◌≤◌, length};
-ghost use Rattle.rs01_poly.specs.Code.{encode};
+ghost use Rattle.std.specs.Prelude.{◌≡◌, ℕ, ◌+◌, ◌≤◌, ◌++◌, length};
+ghost use Rattle.rs01_poly.specs.Code.{IsCodeword, encode, generator, lower};
 
 use crate::register::divide;
 use rs01_poly::generator;
@@ -41,11 +41,19 @@ impl Encoder {
         }
     }
 
+    /// The coefficients of the generator polynomial below the leading one, the highest first.
+    pub fn low(&self) -> &[u8]
+        ensures { result.now ≡ lower (generator self.now) }
+    {
+        &self.coefficients[1..self.parity_count + 1]
+    }
+
     /// Writes the parity of the data, the coefficient of the highest power first.
     pub fn encode(&self, data_: &[u8], parity: &mut [u8])
         requires count { length parity.old ≡ self.now }
         requires whole { length data_.now + length parity.old ≡ 255 }
-        ensures { parity.new ≡ encode data_.now }
+        ensures parity { parity.new ≡ encode data_.now }
+        ensures codeword { IsCodeword (data_.now ++ parity.new) (length parity.old) }
     {
         let low = &self.coefficients[1..self.parity_count + 1];
         divide(data_, low, parity);
@@ -57,7 +65,8 @@ pub fn encode_codeword(data_: &[u8], parity: &mut [u8])
     requires whole { length data_.now + length parity.old ≡ 255 }
     requires least { 8 ≤ length parity.old }
     requires most { length parity.old ≤ 100 }
-    ensures { parity.new ≡ encode data_.now }
+    ensures parity { parity.new ≡ encode data_.now }
+    ensures codeword { IsCodeword (data_.now ++ parity.new) (length parity.old) }
 {
     let r = parity.len() as u32;
     Encoder::new(r).encode(data_, parity);

@@ -6,9 +6,11 @@
 //! divided by the generator polynomial.
 #![tactic(auto)]
 
+mod columns;
 mod encoder;
 mod register;
 mod task;
 
+pub use columns::encode_columns;
 pub use encoder::{Encoder, encode_codeword};
-pub use task::EncodeTask;
+pub use task::{EncodeTask, PlainEncodeTask};

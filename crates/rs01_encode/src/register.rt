@@ -12,7 +12,8 @@ fn shift(register: &mut [u8], low: &[u8], byte: u8)
     requires some { 0 < length register.old }
     requires same { length low.now ≡ length register.old }
     ensures { (k : ℕ) → slice_index register.new k
-        ≡ bit_xor (slice_index register.old (k + 1)) (times (bit_xor byte (slice_index register.old 0)) (slice_index low.now k)) }
+        ≡ bit_xor (slice_index register.old (k + 1)) (times (bit_xor byte
+        (slice_index register.old 0)) (slice_index low.now k)) }
 {
     let feedback = Gf(byte ^ register[0]);
     let last = register.len() - 1;

@@ -5,3 +5,4 @@ pub mod Found
 pub mod ErasedPlaces
 pub mod LayerValueLemmas
 pub mod RestoringLemmas
+pub mod Completing

@@ -3,3 +3,5 @@ pub mod PowerSums
 pub mod LayerValue
 pub mod Correcting
 pub mod Restoring
+pub mod Completed
+pub mod Pattern

@@ -1,4 +1,4 @@
-//! The task that corrects a layer.
+//! Correcting a layer codeword by codeword: the plain program.
 
 ghost use Rattle.std.specs.Prelude.{◌≡◌, ◌≢◌, ℕ, ◌+◌, ◌-◌, ◌*◌, ◌<◌, ◌≤◌, ◌↔◌, All, IfOk, IfSome, IsNone, IsSome, IsTrue, length, slice_index, take};
 ghost use Rattle.std.specs.List.Sorted.{IsStrictlyIncreasing};
@@ -13,19 +13,11 @@ use rs01_layers::{
 use rs01_sums::crc32;
 use std::alloc::{AllocError, Global};
 
-/// The task that restores the blocks of a layer's erased places. It takes an input with parity.
-///
-/// It gives the first that fits of these:
-///
-/// 1. `Beyond` with the number of erased places, where a codeword has fewer parity bytes.
-/// 2. `Inconsistent` with the first codeword whose bytes at the other places no codeword has.
-/// 3. `BadSum` with the first erased place whose restored block has not its recorded checksum.
-/// 4. `Restored` with each erased place and its restored block, by rising place. It has none where
-///    nothing is erased.
+/// The task of `CorrectTask` codeword by codeword: the plain program, by which the other is tested.
 #[derive(Clone, Copy)]
-pub struct CorrectTask;
+pub struct PlainCorrectTask;
 
-impl LayerTask for CorrectTask {
+impl LayerTask for PlainCorrectTask {
     ghost fit = { λ input. length input.parity ≡ 2048 * input.parity_count };
 
     ghost value = { correct };
@@ -40,8 +32,8 @@ impl LayerTask for CorrectTask {
     }
 }
 
-// Writes the places whose flag is set, and gives their number.
-fn find_erased(flags: &[bool], places: &mut [u8; 255]) -> usize
+/// Writes the places whose flag is set, and gives their number.
+pub fn find_erased(flags: &[bool], places: &mut [u8; 255]) -> usize
     requires { length flags.now ≤ 255 }
     ensures places { take result places.new ≡ erased_places flags.now }
     ensures count { result ≡ length (erased_places flags.now) }
@@ -60,7 +52,8 @@ fn find_erased(flags: &[bool], places: &mut [u8; 255]) -> usize
 fn gather(input: &LayerInput, codeword: u32, word: &mut [u8; 255])
     requires parity { length input.now.parity ≡ 2048 * input.now.parity_count }
     requires codeword { codeword < 2048 }
-    ensures { word.new ≡ word_of (blocks_in input.now) input.now.parity input.now.parity_count codeword }
+    ensures { word.new
+        ≡ word_of (blocks_in input.now) input.now.parity input.now.parity_count codeword }
 {
     let parity_count = input.parity_count as usize;
     let from = codeword as usize * parity_count;
@@ -74,8 +67,10 @@ fn store(word: &[u8; 255], erased: &[u8], codeword: u32, restored: &mut [u8])
     requires below { All (λ p. p < 255) erased.now }
     requires room { length restored.old ≡ 2048 * length erased.now }
     requires codeword { codeword < 2048 }
-    ensures here { (k : ℕ) → k < length erased.now → slice_index restored.new (2048 * k + codeword) ≡ slice_index word.now (slice_index erased.now k) }
-    ensures others { (k b : ℕ) → b < 2048 → b ≢ codeword → slice_index restored.new (2048 * k + b) ≡ slice_index restored.old (2048 * k + b) }
+    ensures here { (k : ℕ) → k < length erased.now → slice_index restored.new (2048 * k + codeword)
+        ≡ slice_index word.now (slice_index erased.now k) }
+    ensures others { (k b : ℕ) → b < 2048 → b ≢ codeword → slice_index restored.new (2048 * k + b)
+        ≡ slice_index restored.old (2048 * k + b) }
 {
     for (k, place) in erased.iter().enumerate() {
         restored[2048 * k + codeword as usize] = word[*place as usize];
@@ -92,7 +87,8 @@ fn restore_at(input: &LayerInput, erased: &[u8], codeword: u32, restored: &mut [
     requires codeword { codeword < 2048 }
     ensures consistent { IsTrue result ↔ IsSome (completed_at input.now erased.now codeword) }
     ensures here { IsTrue result → HoldsByte input.now erased.now restored.new codeword }
-    ensures others { (k b : ℕ) → b < 2048 → b ≢ codeword → slice_index restored.new (2048 * k + b) ≡ slice_index restored.old (2048 * k + b) }
+    ensures others { (k b : ℕ) → b < 2048 → b ≢ codeword → slice_index restored.new (2048 * k + b)
+        ≡ slice_index restored.old (2048 * k + b) }
 {
     let mut word = [0u8; 255];
     gather(input, codeword, &mut word);
@@ -102,6 +98,23 @@ fn restore_at(input: &LayerInput, erased: &[u8], codeword: u32, restored: &mut [
             true
         }
         Err(_) => false,
+    }
+}
+
+/// Whether no codeword has the bytes of this one at the places that are not erased.
+pub fn is_inconsistent(input: &LayerInput, erased: &[u8], codeword: u32) -> bool
+    requires parity { length input.now.parity ≡ 2048 * input.now.parity_count }
+    requires rising { IsStrictlyIncreasing erased.now }
+    requires below { All (λ p. p < 255) erased.now }
+    requires few { length erased.now ≤ input.now.parity_count }
+    requires codeword { codeword < 2048 }
+    ensures { IsTrue result ↔ IsNone (completed_at input.now erased.now codeword) }
+{
+    let mut word = [0u8; 255];
+    gather(input, codeword, &mut word);
+    match restore_codeword(&mut word, erased, input.parity_count) {
+        Ok(()) => false,
+        Err(_) => true,
     }
 }
 
@@ -118,10 +131,14 @@ fn restore_all(
     requires few { length erased.now ≤ input.now.parity_count }
     requires room { length restored.old ≡ 2048 * length erased.now }
     requires codewords { codewords ≤ 2048 }
-    ensures consistent { IsNone result → (b : ℕ) → b < codewords → IsSome (completed_at input.now erased.now b) }
-    ensures restored { IsNone result → (b : ℕ) → b < codewords → HoldsByte input.now erased.now restored.new b }
-    ensures inconsistent { IfSome result (λ found. (found < codewords) × IsNone (completed_at input.now erased.now found)) }
-    ensures first { IfSome result (λ found. (b : ℕ) → b < found → IsSome (completed_at input.now erased.now b)) }
+    ensures consistent { IsNone result → (b : ℕ) → b < codewords
+        → IsSome (completed_at input.now erased.now b) }
+    ensures restored { IsNone result → (b : ℕ) → b < codewords
+        → HoldsByte input.now erased.now restored.new b }
+    ensures inconsistent { IfSome result (λ found. (found < codewords)
+        × IsNone (completed_at input.now erased.now found)) }
+    ensures first { IfSome result (λ found. (b : ℕ) → b < found
+        → IsSome (completed_at input.now erased.now b)) }
 {
     for codeword in 0..codewords {
         if !restore_at(input, erased, codeword, restored) {
@@ -193,6 +210,25 @@ fn restore_within(
     if let Some(codeword) = restore_all(input, erased, 2048, restored) {
         return Ok(LayerOut::Inconsistent(codeword));
     }
+    let out = answer_restored(alloc, input, erased, restored)?;
+    Ok(out)
+}
+
+/// The answer where every codeword is completed, and the bytes of the erased places stand in these
+/// blocks: `BadSum` or `Restored`.
+pub fn answer_restored(
+    alloc: Global,
+    input: &LayerInput,
+    erased: &[u8],
+    restored: &[u8],
+) -> Result<LayerOut, AllocError>
+    requires erased { erased.now ≡ erased_places input.now.erased }
+    requires few { length erased.now ≤ input.now.parity_count }
+    requires room { length restored.now ≡ 2048 * length erased.now }
+    requires completed { (b : ℕ) → b < 2048 → IsSome (completed_at input.now erased.now b) }
+    requires held { (b : ℕ) → b < 2048 → HoldsByte input.now erased.now restored.now b }
+    ensures { IfOk result (λ out. out ≡ correct input.now) }
+{
     if let Some(place) = find_bad_sum(restored, erased, input.sums.items()) {
         return Ok(LayerOut::BadSum(place));
     }
@@ -200,8 +236,12 @@ fn restore_within(
     Ok(LayerOut::Restored(PlacedList::of(list)))
 }
 
-// The same, with a buffer of its own.
-fn restore_places(alloc: Global, input: &LayerInput, erased: &[u8]) -> Result<LayerOut, AllocError>
+/// The same, with a buffer of its own.
+pub fn restore_places(
+    alloc: Global,
+    input: &LayerInput,
+    erased: &[u8],
+) -> Result<LayerOut, AllocError>
     requires parity { length input.now.parity ≡ 2048 * input.now.parity_count }
     requires erased { erased.now ≡ erased_places input.now.erased }
     requires few { length erased.now ≤ input.now.parity_count }

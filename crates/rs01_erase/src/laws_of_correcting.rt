@@ -19,8 +19,10 @@ pub fn lost_blocks_say_nothing(one: &LayerInput, other: &LayerInput)
 /// Where blocks are restored, they are those of exactly the erased places, by rising place; each
 /// has 2048 bytes and its recorded checksum.
 pub fn erased_places_are_restored(input: &LayerInput)
-    ensures places { (list : List Placed) → correct input.now ≡ Restored list → map (λ one. one.place) list ≡ erased_places input.now.erased }
-    ensures blocks { (list : List Placed) → correct input.now ≡ Restored list → All (λ one. IsBlock one.block) list }
+    ensures places { (list : List Placed) → correct input.now ≡ Restored list → map
+        (λ one. one.place) list ≡ erased_places input.now.erased }
+    ensures blocks { (list : List Placed) → correct input.now ≡ Restored list → All
+        (λ one. IsBlock one.block) list }
     ensures sums { (list : List Placed) → correct input.now ≡ Restored list
         → All (λ one. crc one.block ≡ slice_index input.now.sums one.place) list }
 {}
@@ -30,7 +32,9 @@ pub fn erased_places_are_restored(input: &LayerInput)
 /// has parity bytes, the original block of each erased place is restored.
 pub fn intact_layer_is_restored(input: &LayerInput)
     ensures { (original : List (List ℕ))
-        → IsIntact original (blocks_in input.now) input.now.erased input.now.sums input.now.parity input.now.parity_count
+        → IsIntact original
+        (blocks_in input.now) input.now.erased input.now.sums input.now.parity input.now.parity_count
         → length (erased_places input.now.erased) ≤ input.now.parity_count
-        → correct input.now ≡ Restored (placed (λ p. slice_index_or original p []) (erased_places input.now.erased)) }
+        → correct input.now ≡ Restored (placed
+        (λ p. slice_index_or original p []) (erased_places input.now.erased)) }
 {}

@@ -25,7 +25,8 @@ fn divide(values: &mut [u8], locators: &[u8], x: Gf) -> u8
     requires same { length values.old ≡ length locators.now }
     requires apart { (k : ℕ) → k < length locators.now → slice_index locators.now k ≢ x.0 }
     ensures quotients { (k : ℕ) → k < length locators.now
-        → times (slice_index values.new k) (bit_xor (slice_index locators.now k) x.0) ≡ slice_index values.old k }
+        → times (slice_index values.new k) (bit_xor (slice_index locators.now k) x.0)
+        ≡ slice_index values.old k }
     ensures sum { result ≡ power_sum 0 values.new locators.now }
 {
     let mut total = 0;
@@ -49,8 +50,10 @@ fn all_zero(sums: &[u8]) -> bool
 pub fn solve(sums: &mut [u8], locators: &[u8]) -> bool
     requires enough { length locators.now ≤ length sums.old }
     requires differ { Differ locators.now }
-    ensures solved { IsTrue result → ArePowerSums sums.old (take (length locators.now) sums.new) locators.now }
-    ensures found { (values : List ℕ) → length values ≡ length locators.now → All (λ v. v < 2 ^ 8) values
+    ensures solved { IsTrue result
+        → ArePowerSums sums.old (take (length locators.now) sums.new) locators.now }
+    ensures found { (values : List ℕ) → length values ≡ length locators.now → All
+        (λ v. v < 2 ^ 8) values
         → ArePowerSums sums.old values locators.now → IsTrue result }
 {
     match locators {

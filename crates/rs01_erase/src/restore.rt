@@ -38,15 +38,16 @@ fn clear(word: &mut [u8], erased: &[u8])
 // Writes the values at the first roots.
 fn values_at_roots(word: &[u8], values: &mut [u8])
     requires few { length values.old ≤ 100 }
-    ensures { (j : ℕ) → j < length values.old → slice_index values.new j ≡ value_at word.now (root j) }
+    ensures { (j : ℕ) → j < length values.old → slice_index values.new j
+        ≡ value_at word.now (root j) }
 {
     for (j, value) in values.iter_mut().enumerate() {
         *value = eval(word, pow_root(112 + j as u32)).0;
     }
 }
 
-// Writes the locators of these places.
-fn locate(erased: &[u8], locators: &mut [u8])
+/// Writes the locators of these places.
+pub fn locate(erased: &[u8], locators: &mut [u8])
     requires same { length locators.old ≡ length erased.now }
     requires below { All (λ p. p < 255) erased.now }
     ensures { locators.new ≡ map locator erased.now }
@@ -72,27 +73,44 @@ fn put(word: &mut [u8], erased: &[u8], values: &[u8])
     }
 }
 
-// Restores the word, or gives false and leaves it, with room for the power sums and the locators.
-fn restore_within(word: &mut [u8; 255], erased: &[u8], sums: &mut [u8], locators: &mut [u8]) -> bool
+/// Restores the word, or gives false and leaves it, by the locators of the places and with room for
+/// the power sums.
+pub fn restore_with(word: &mut [u8; 255], erased: &[u8], locators: &[u8], sums: &mut [u8]) -> bool
     requires rising { IsStrictlyIncreasing erased.now }
     requires below { All (λ p. p < 255) erased.now }
     requires enough { length erased.now ≤ length sums.old }
     requires few { length sums.old ≤ 100 }
-    requires same { length locators.old ≡ length erased.now }
-    ensures restored { IsTrue result → completion word.old erased.now (length sums.old) ≡ Some word.new }
+    requires located { locators.now ≡ map locator erased.now }
+    ensures restored { IsTrue result → completion word.old erased.now (length sums.old)
+        ≡ Some word.new }
     ensures none { result ≡ false → completion word.old erased.now (length sums.old) ≡ None }
     ensures unchanged { result ≡ false → word.new ≡ word.old }
 {
     let mut known = *word;
     clear(&mut known, erased);
     values_at_roots(&known, sums);
-    locate(erased, locators);
     if !solve(sums, locators) {
         return false;
     }
     put(&mut known, erased, &sums[..erased.len()]);
     *word = known;
     true
+}
+
+// The same, with room for the locators.
+fn restore_within(word: &mut [u8; 255], erased: &[u8], sums: &mut [u8], locators: &mut [u8]) -> bool
+    requires rising { IsStrictlyIncreasing erased.now }
+    requires below { All (λ p. p < 255) erased.now }
+    requires enough { length erased.now ≤ length sums.old }
+    requires few { length sums.old ≤ 100 }
+    requires same { length locators.old ≡ length erased.now }
+    ensures restored { IsTrue result → completion word.old erased.now (length sums.old)
+        ≡ Some word.new }
+    ensures none { result ≡ false → completion word.old erased.now (length sums.old) ≡ None }
+    ensures unchanged { result ≡ false → word.new ≡ word.old }
+{
+    locate(erased, locators);
+    restore_with(word, erased, locators, sums)
 }
 
 /// Restores the bytes of a word at the erased places: afterwards the word is the one codeword with
@@ -106,8 +124,10 @@ pub fn restore_codeword(word: &mut [u8; 255], erased: &[u8], r: u32) -> Result<(
     requires below { All (λ p. p < 255) erased.now }
     requires least { 8 ≤ r }
     requires most { r ≤ 100 }
-    ensures beyond { (n : ℕ) → (result ≡ Err (EraseRefusal.Beyond n)) ↔ ((r < length erased.now) × (n ≡ length erased.now)) }
-    ensures inconsistent { (result ≡ Err EraseRefusal.Inconsistent) ↔ ((length erased.now ≤ r) × (completion word.old erased.now r ≡ None)) }
+    ensures beyond { (n : ℕ) → (result ≡ Err (EraseRefusal.Beyond n)) ↔ ((r < length erased.now)
+        × (n ≡ length erased.now)) }
+    ensures inconsistent { (result ≡ Err EraseRefusal.Inconsistent) ↔ ((length erased.now ≤ r)
+        × (completion word.old erased.now r ≡ None)) }
     ensures restored { IsOk result → completion word.old erased.now r ≡ Some word.new }
     ensures codeword { IsOk result → IsCodeword word.new r }
     ensures kept { IsOk result → AgreeOutside word.new word.old erased.now }

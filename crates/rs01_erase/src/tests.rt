@@ -7,6 +7,7 @@ use super::*;
 use rs01_gf256::Gf;
 use rs01_poly::generator;
 use std::process::Abort;
+use std::test::Fail;
 
 // Whether these are places of a codeword, and rise.
 fn are_places(places: &[u8]) -> bool
@@ -177,4 +178,47 @@ fn inconsistent_word(rt: HostRuntime) {
     );
     assert_eq!(rt; word[0], 1);
     assert_eq!(rt; word[1], 0);
+}
+
+// One pattern of the first 32 places through the multiples of a codeword.
+#[test]
+fn one_pattern_for_many_words(rt: HostRuntime) -> Result<(), Fail> {
+    let mut state = 11;
+    let codeword = random_codeword(32, &mut state);
+    let mut places = [0u8; 32];
+    write_runs(&mut places, 0, 0, 32);
+    assert!(rt; are_places(&places));
+    let pattern = Pattern::new(rt.alloc(), &places, 32)?;
+    for factor in 0..2048u32 {
+        let mut word = codeword;
+        for k in 0..255usize {
+            word[k] = Gf(word[k]).mul(Gf((factor % 256) as u8)).0;
+        }
+        let expected = word;
+        for place in places {
+            word[place as usize] = next_byte(&mut state);
+        }
+        assert_eq!(rt; pattern.restore(&mut word), Ok(()));
+        assert!(rt; word == expected);
+    }
+    Ok(())
+}
+
+#[test]
+fn patterns_that_do_not_fit(rt: HostRuntime) -> Result<(), Fail> {
+    let mut places = [0u8; 33];
+    write_runs(&mut places, 0, 0, 33);
+    assert!(rt; are_places(&places));
+    assert_eq!(rt;
+        Pattern::new(rt.alloc(), &places, 32).err(),
+        Some(PatternRefusal::Beyond(33))
+    );
+    let none: [u8; 0] = [];
+    assert!(rt; are_places(&none));
+    let pattern = Pattern::new(rt.alloc(), &none, 32)?;
+    let mut word = [0u8; 255];
+    word[0] = 1;
+    assert_eq!(rt; pattern.restore(&mut word), Err(Disagree));
+    assert_eq!(rt; (word[0], word[1]), (1, 0));
+    Ok(())
 }

@@ -1,23 +1,16 @@
 use Rattle.std.proofs.Common.{◌≡◌, ℕ, ◌+◌, ◌-◌, List, [], ◌∷◌, ◌++◌, refl, sym, ap, ◌∙◌, length, arith, append-nil}
-use Rattle.std.proofs.lemmas.List.{map-id}
-use Rattle.std.proofs.lemmas.List.FromFn.{map-range_with_len_more}
 use Rattle.std.proofs.lemmas.List.Concat.{flat_map-append}
 use Rattle.std.specs.List.{flat_map, range_with_len}
 use Rattle.rs01_poly.specs.Code.{encode}
 use Rattle.rs01_layers.specs.Layer.{column}
 use Rattle.rs01_layers.specs.Blocks.{blocks_of}
 use Rattle.rs01_encode.specs.Task.{parity_of}
+use Rattle.rs01_encode.proofs.ParityPieces.{range_more}
 use Rattle.rs01_encode.proofs.task.encode_blocks.Goals as goal
 
 no_codeword : (blocks : List (List ℕ)) → [] ≡ parity_of 0 blocks
 unfolding parity_of
 no_codeword blocks = refl
-
-range_more : (n : ℕ) → range_with_len 0 (n + 1) ≡ range_with_len 0 n ++ n ∷ []
-range_more n =
-    sym (map-id (range_with_len 0 (n + 1)))
-    ∙ map-range_with_len_more (λ k. k) 0 n n (let e : 0 + n ≡ n = omega arith in e)
-    ∙ ap (λ ks. ks ++ n ∷ []) (map-id (range_with_len 0 n))
 
 one_codeword_more : (blocks : List (List ℕ)) (b : ℕ) (old new word parity : List ℕ) → old ≡ parity_of b blocks → word ≡ column blocks b
     → parity ≡ encode word → new ≡ old ++ parity → new ≡ parity_of (b + 1) blocks
@@ -35,4 +28,4 @@ loop-codeword-preserved c =
     let n : length c.loop-codeword.data_ ≡ 255 - c.args.parity_count = omega arith in
     one_codeword_more (blocks_of (255 - c.args.parity_count) c.args.blocks.now) c.loop-codeword.codeword c.loop-codeword.bytes.items _ _ _
     c.loop-codeword.invariant (c.column_of_blocks_into.ensures ∙ ap (λ k. column (blocks_of k c.args.blocks.now) c.loop-codeword.codeword) n)
-    c.encode.ensures c.in_ok-extend_from_slice.ensures.items
+    c.encode.ensures.parity c.in_ok-extend_from_slice.ensures.items

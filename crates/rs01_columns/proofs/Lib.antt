@@ -1,0 +1,12 @@
+pub mod SixteenBytes
+pub mod Nibbles
+pub mod Raising
+pub mod EightSteps
+pub mod StepByStep
+pub mod Within
+pub mod ColumnsKept
+pub mod Laid
+pub mod UnitPlaces
+pub mod UnitWords
+pub mod LinearPrograms
+pub mod Known
