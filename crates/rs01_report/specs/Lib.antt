@@ -1,6 +1,6 @@
 pub mod Runs
 pub mod Maximal
+pub mod Lines
 pub mod Texts
 pub mod Faults
-pub mod Causes
-pub mod FixTexts
+pub mod Puts

@@ -1,5 +1,10 @@
 //! The faults that end a run.
 
+ghost use Rattle.std.specs.Prelude.{◌≡◌};
+ghost use Rattle.rs01_report.specs.Faults.{number_of, status_of};
+
+use crate::status::Status;
+
 /// Why a run ended without its work, with the values that its line shows.
 ///
 /// A `usize` is the place of a word, counted from 0, or the number of a drive.
@@ -65,4 +70,42 @@ pub enum Fault {
     OutOfMemory,
     /// The command isn't built yet.
     NotBuilt,
+}
+
+impl Fault {
+    /// The status of a run that this fault ends.
+    pub fn status(&self) -> Status
+        ensures { number_of result ≡ status_of self.now }
+    {
+        match *self {
+            Fault::NoCommand
+            | Fault::UnknownCommand
+            | Fault::UnknownOption(_)
+            | Fault::Repeated(_)
+            | Fault::NoValue(_)
+            | Fault::BadNumber(_)
+            | Fault::OutOfRange(_)
+            | Fault::Missing(_)
+            | Fault::SameName(_)
+            | Fault::NotBuilt => Status::Words,
+            Fault::NoImage
+            | Fault::NoEcc
+            | Fault::EmptyImage
+            | Fault::TooManySectors(_)
+            | Fault::Marker(_)
+            | Fault::Cookie
+            | Fault::Method
+            | Fault::Version
+            | Fault::Sectors
+            | Fault::Parity
+            | Fault::LastBytes
+            | Fault::Size(_, _)
+            | Fault::Body(_, _) => Status::Files,
+            Fault::ReadFault | Fault::WriteFault => Status::Access,
+            Fault::NoDrive | Fault::Failed(_) | Fault::Differ(_, _) | Fault::DriveSize(_) => {
+                Status::Drives
+            }
+            Fault::OutOfMemory => Status::Memory,
+        }
+    }
 }

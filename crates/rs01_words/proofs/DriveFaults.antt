@@ -1,24 +1,24 @@
 -- The drives of words with nothing wrong: not too many, and each has its name.
 use Rattle.std.proofs.Common.{◌≡◌, ◌⊎◌, inl, inr, ℕ, zero, suc, [], ◌∷◌, ◌++◌, ◌+◌, ◌-◌, ◌<◌, ◌≤◌, Bool, true, false, not, ◌&&◌, cond, List, length, sym, ◌∙◌, ap, refl, arith, Some, None, Option}
-use Rattle.std.specs.Prelude.{is_some, nat_lt, ◌==◌}
+use Rattle.std.specs.Prelude.{is_some, nat_le, ◌==◌}
 use Rattle.std.specs.List.{find, range_with_len}
 use Rattle.std.specs.Option.{option_or}
 use Rattle.std.specs.Str.{bytes_eq}
 use Rattle.std.proofs.lemmas.Bool.Decides.{nat_tests}
 use Rattle.std.proofs.lemmas.Slice.Eq.{bytes_eq-Decides}
-use Rattle.std.proofs.lemmas.List.{append-nil}
 use Rattle.std.proofs.lemmas.List.Folds.{find-append}
 use Rattle.rs01_words.specs.declared.table.Verb.{Verb}
 use Rattle.rs01_words.specs.declared.table.Verb.TheVariants.{Create, Fix, Verify, Scan, Read, Demo}
-use Rattle.rs01_words.specs.declared.table.OptionRule.{OptionRule}
-use Rattle.rs01_words.specs.declared.table.TheConstants.{DRIVE}
+use Rattle.rs01_words.specs.declared.table.OptionWord.{OptionWord}
+use Rattle.rs01_words.specs.declared.table.OptionWord.TheVariants.{Drive}
+use Rattle.rs01_words.specs.declared.refusal.Pass.TheVariants.{Words}
 use Rattle.rs01_words.specs.declared.fault.WordFault.{WordFault}
 use Rattle.rs01_words.specs.declared.fault.WordFault.TheVariants.{Repeated, NoValue}
-use Rattle.rs01_words.specs.Table.{text_of, option_of}
+use Rattle.rs01_words.specs.Grammar.{row_of, option_of}
 use Rattle.rs01_words.specs.Line.{word_at, is_option, is_value, is_given, places_below, given_places, kind_at}
 use Rattle.rs01_words.specs.Refusal.{option_fault, value_fault, fault_at, has_fault}
 use Rattle.rs01_words.specs.Command.{AreWithin}
-use Rattle.rs01_words.proofs.PlaceLists.{places_below-parts, filter-more}
+use Rattle.rs01_words.proofs.PlaceLists.{places_below-parts}
 
 neither : {X : Type 0} (a b : Option X) → option_or a b ≡ None → (a ≡ None) × (b ≡ None)
 neither None b e = (refl, e)
@@ -38,7 +38,7 @@ find_none_at test i n pos less none =
     passes_not false e = refl
 
 -- the rule of `--drive`, where a command has it
-drive_rule : (verb : Verb) → (option_of verb (text_of DRIVE.spelling) ≡ Some DRIVE) ⊎ (option_of verb (text_of DRIVE.spelling) ≡ None)
+drive_rule : (verb : Verb) → (option_of verb (row_of Drive).text ≡ Some Drive) ⊎ (option_of verb (row_of Drive).text ≡ None)
 unfolding option_of
 drive_rule Create = inr refl
 drive_rule Fix = inr refl
@@ -47,11 +47,11 @@ drive_rule Scan = inl refl
 drive_rule Read = inl refl
 drive_rule Demo = inr refl
 
-drive_fault : (rule : Option OptionRule) (given : ℕ) (last : Bool) → (rule ≡ Some DRIVE) ⊎ (rule ≡ None) → None ≡ option_fault rule given last → (given ≤ 15) × (last ≡ false)
+drive_fault : (rule : Option OptionWord) (given : ℕ) (last : Bool) → (rule ≡ Some Drive) ⊎ (rule ≡ None) → None ≡ option_fault rule given last → (given ≤ 15) × (last ≡ false)
 drive_fault rule given last (inl is) none =
-    let e : None ≡ option_fault (Some DRIVE) given last = rw is at none in
-    let d = decided (nat_lt 15 given) last e in
-    let again : nat_lt 15 given ≡ false = d.0 in
+    let e : None ≡ option_fault (Some Drive) given last = rw is at none in
+    let d = decided (nat_le 16 given) last e in
+    let again : nat_le 16 given ≡ false = d.0 in
     (grind (arith, nat_tests), d.1)
   where
     decided : (again last : Bool) → None ≡ cond again (Some Repeated) (cond (true && last) (Some NoValue) None) → (again ≡ false) × (last ≡ false)
@@ -62,7 +62,7 @@ drive_fault rule given last (inr is) none =
     let e : None ≡ option_fault None given last = rw is at none in
     cc
 
-pub no_fault : (verb : Verb) (words : List (List ℕ)) (i : ℕ) → has_fault verb words i ≡ false → None ≡ fault_at verb words i
+pub no_fault : (verb : Verb) (words : List (List ℕ)) (i : ℕ) → has_fault Words verb words i ≡ false → None ≡ fault_at verb words i
 unfolding has_fault
 no_fault verb words i clear = none (fault_at verb words i) clear
   where
@@ -71,37 +71,22 @@ no_fault verb words i clear = none (fault_at verb words i) clear
     none (Some fault) e = cc
 
 -- a drive that is given where nothing is wrong
-pub drive_at : (verb : Verb) (words : List (List ℕ)) (i : ℕ) → None ≡ fault_at verb words i → is_given verb words (text_of DRIVE.spelling) i ≡ true → (length (given_places verb words (text_of DRIVE.spelling) i) ≤ 15) × ((i + 1 == length words) ≡ false)
+pub drive_at : (verb : Verb) (words : List (List ℕ)) (i : ℕ) → None ≡ fault_at verb words i → is_given verb words (row_of Drive).text i ≡ true → (length (given_places verb words (row_of Drive).text i) ≤ 15) × ((i + 1 == length words) ≡ false)
 unfolding fault_at
 drive_at verb words i none given =
-    let parts = both (is_value verb words i) (bytes_eq (word_at words i) (text_of DRIVE.spelling)) given in
-    let word : word_at words i ≡ text_of DRIVE.spelling = (bytes_eq-Decides (word_at words i) (text_of DRIVE.spelling)).0 parts.1 in
+    let parts = both (is_value verb words i) (bytes_eq (word_at words i) (row_of Drive).text) given in
+    let word : word_at words i ≡ (row_of Drive).text = (bytes_eq-Decides (word_at words i) (row_of Drive).text).0 parts.1 in
     let last = i + 1 == length words in
     let as_option : List ℕ → Option WordFault = λ w. option_fault (option_of verb w) (length (given_places verb words w i)) last in
     let as_value = value_fault (kind_at verb words i) (word_at words i) in
     let test : (not (is_value verb words i) && is_option (word_at words i)) ≡ true =
     ap (λ b. not b && is_option (word_at words i)) parts.0 ∙ ap is_option word in
-    drive_fault (option_of verb (text_of DRIVE.spelling)) (length (given_places verb words (text_of DRIVE.spelling) i)) last (drive_rule verb)
+    drive_fault (option_of verb (row_of Drive).text) (length (given_places verb words (row_of Drive).text i)) last (drive_rule verb)
     (none ∙ ap (λ b. cond b (as_option (word_at words i)) as_value) test ∙ ap as_option word)
   where
     both : (value same : Bool) → (not value && same) ≡ true → (value ≡ false) × (same ≡ true)
     both true same e = cc
     both false same e = (refl, e)
-
--- one drive more, and no drive more
-pub given_places-push : (verb : Verb) (words : List (List ℕ)) (option : List ℕ) (i : ℕ) → 0 < i → is_given verb words option i ≡ true → given_places verb words option (i + 1) ≡ given_places verb words option i ++ i ∷ []
-unfolding given_places
-given_places-push verb words option i pos given =
-    filter-more (is_given verb words option) i pos ∙ ap (λ b. given_places verb words option i ++ cond b (i ∷ []) []) given
-
-pub given_places-keep : (verb : Verb) (words : List (List ℕ)) (option : List ℕ) (i : ℕ) → 0 < i → is_given verb words option i ≡ false → given_places verb words option (i + 1) ≡ given_places verb words option i
-unfolding given_places
-given_places-keep verb words option i pos given =
-    filter-more (is_given verb words option) i pos ∙ ap (λ b. given_places verb words option i ++ cond b (i ∷ []) []) given ∙ append-nil (given_places verb words option i)
-
-pub given_places-nil : (verb : Verb) (words : List (List ℕ)) (option : List ℕ) → given_places verb words option 1 ≡ []
-unfolding given_places
-given_places-nil verb words option = refl
 
 pub AreWithin-nil : (n : ℕ) (xs : List ℕ) → xs ≡ [] → AreWithin n xs
 AreWithin-nil n xs none = rw none (λ i. tt)

@@ -1,4 +1,3 @@
-mod Texts
 mod Numbers
 mod Ranges
 mod PlaceLists

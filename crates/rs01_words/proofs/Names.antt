@@ -1,5 +1,5 @@
 -- Where nothing is wrong with the words, the image and its error correction file have different names.
-use Rattle.std.proofs.Common.{◌≡◌, ◌≢◌, ◌⊎◌, inl, inr, ℕ, zero, suc, [], ◌∷◌, ◌++◌, ◌+◌, ◌-◌, ◌<◌, ◌≤◌, Bool, true, false, not, ◌&&◌, cond, List, length, filter, sym, ◌∙◌, ap, refl, arith, Some, None, Option, get_or, map, take}
+use Rattle.std.proofs.Common.{◌≡◌, ◌≢◌, ◌⊎◌, inl, inr, ℕ, zero, suc, [], ◌∷◌, ◌++◌, ◌+◌, ◌-◌, ◌<◌, ◌≤◌, Bool, true, false, not, ◌&&◌, cond, List, length, sym, ◌∙◌, ap, refl, arith, Some, None, Option, get_or, map, take}
 use Rattle.std.specs.Prelude.{is_some, IfSome, nat_lt}
 use Rattle.std.specs.List.{find, slice_get}
 use Rattle.std.specs.Str.{bytes_eq}
@@ -10,20 +10,20 @@ use Rattle.std.proofs.lemmas.Slice.Eq.{bytes_eq-Decides}
 use Rattle.rs01_words.specs.declared.table.Kind.TheVariants.{Name}
 use Rattle.rs01_words.specs.declared.table.Verb.{Verb}
 use Rattle.rs01_words.specs.declared.table.Verb.TheVariants.{Create, Fix, Verify, Scan, Read, Demo}
-use Rattle.rs01_words.specs.Table.{plain_kind, needed_of}
-use Rattle.rs01_words.specs.Line.{word_at, is_option, is_value, is_plain, places_below, plain_places, kind_at, value_kind}
-use Rattle.rs01_words.specs.Refusal.{must_differ, clash, repeats_name, plain_at, IsClear}
-use Rattle.rs01_words.specs.Command.{plain_if_any, command_of, NamesDiffer, AreWithin, IsWithin, drives_of}
-use Rattle.rs01_words.specs.declared.command.Command.{Command}
-use Rattle.rs01_words.specs.declared.command.Command.TheVariants as command
-use Rattle.rs01_words.proofs.PlaceLists.{filter-more, found_at}
+use Rattle.rs01_words.specs.Grammar.{plain_kind, needed_of}
+use Rattle.rs01_words.specs.declared.refusal.Pass.TheVariants as pass
+use Rattle.rs01_words.specs.declared.fault.WordFault.TheVariants.{SameName}
+use Rattle.rs01_words.specs.Line.{word_at, is_option, is_value, is_plain, places_below, places_where, plain_places, kind_at, value_kind}
+use Rattle.rs01_words.specs.Refusal.{must_differ, clash, repeats_name, has_fault, plain_at, IsClear}
+use Rattle.rs01_words.specs.Command.{plain_if_any, command_of, NamesDiffer}
+use Rattle.rs01_words.proofs.PlaceLists.{where-more, where_at}
 use Rattle.rs01_words.proofs.DriveFaults.{find_none_at}
 
 pub record IsFound (test : ℕ → Bool) (n k i : ℕ) : Type 0 where
   pub pos : 0 < i
   pub less : i < n
   pub pass : test i ≡ true
-  pub number : length (filter test (places_below i)) ≡ k
+  pub number : length (places_where test i) ≡ k
 
 last_or_before : (xs : List ℕ) (b : Bool) (n k i : ℕ) → slice_get (xs ++ cond b (n ∷ []) []) k ≡ Some i → (slice_get xs k ≡ Some i) ⊎ ((b ≡ true) × (k ≡ length xs) × (i ≡ n))
 last_or_before [] true n zero i is = inr (refl, refl, cc)
@@ -34,15 +34,16 @@ last_or_before (x ∷ xs) b n (suc k) i is =
     elim (last_or_before xs b n k i is) [ inl before ↦ inl before | inr last ↦ inr (last.0, omega (arith, last.1), last.2) ]
 
 -- the place with a number among those that pass a test
-found : (test : ℕ → Bool) (n k i : ℕ) → slice_get (filter test (places_below n)) k ≡ Some i → IsFound test n k i
+found : (test : ℕ → Bool) (n k i : ℕ) → slice_get (places_where test n) k ≡ Some i → IsFound test n k i
+unfolding places_where
 found test zero k i is = cc
 found test (suc zero) k i is = cc
 found test (suc (suc m)) k i is =
     let pos : 0 < suc m = omega arith in
     let e : suc m + 1 ≡ suc (suc m) = omega arith in
-    let last : slice_get (filter test (places_below (suc m)) ++ cond (test (suc m)) (suc m ∷ []) []) k ≡ Some i =
-    ap (λ xs. slice_get xs k) (sym (filter-more test (suc m) pos)) ∙ ap (λ n. slice_get (filter test (places_below n)) k) e ∙ is in
-    elim (last_or_before (filter test (places_below (suc m))) (test (suc m)) (suc m) k i last) [
+    let last : slice_get (places_where test (suc m) ++ cond (test (suc m)) (suc m ∷ []) []) k ≡ Some i =
+    ap (λ xs. slice_get xs k) (sym (where-more test (suc m) pos)) ∙ ap (λ n. slice_get (places_where test n) k) e ∙ is in
+    elim (last_or_before (places_where test (suc m)) (test (suc m)) (suc m) k i last) [
       | inl before ↦
           let f = found test (suc m) k i before in
           record { pos = f.pos; less = omega (arith, f.less); pass = f.pass; number = f.number }
@@ -50,7 +51,7 @@ found test (suc (suc m)) k i is =
         pos = omega (arith, here.2);
         less = omega (arith, here.2);
         pass = ap test here.2 ∙ here.0;
-        number = ap (λ n. length (filter test (places_below n))) here.2 ∙ sym here.1;
+        number = ap (λ n. length (places_where test n)) here.2 ∙ sym here.1;
       }
     ]
 
@@ -60,12 +61,12 @@ in_order test n i j first second = go (nat_lt i j) refl
   where
     not_after : (b : Bool) → nat_lt j i ≡ b → nat_lt i j ≡ false → i < j
     not_after true after e =
-        let there : slice_get (filter test (places_below i)) (length (filter test (places_below j))) ≡ Some j = found_at test j i second.pos (ltb-true j i after) second.pass in
-        let within : length (filter test (places_below j)) < length (filter test (places_below i)) = slice_get_within _ _ j there in
+        let there : slice_get (places_where test i) (length (places_where test j)) ≡ Some j = sym (where_at test j i _ second.pos (ltb-true j i after) second.pass refl) in
+        let within : length (places_where test j) < length (places_where test i) = slice_get_within _ _ j there in
         absurd (omega (arith, first.number, second.number))
     not_after false after e =
         let same : i ≡ j = omega (arith, ltb-false i j e, ltb-false j i after) in
-        let count : length (filter test (places_below i)) ≡ length (filter test (places_below j)) = ap (λ n. length (filter test (places_below n))) same in
+        let count : length (places_where test i) ≡ length (places_where test j) = ap (λ n. length (places_where test n)) same in
         absurd (omega (arith, first.number, second.number))
 
     go : (b : Bool) → nat_lt i j ≡ b → i < j
@@ -86,6 +87,14 @@ kind_of_plain verb words i k plain number =
     ap (λ b. cond b (value_kind verb (word_at words (i - 1))) (cond (is_option (word_at words i)) None kind)) parts.0 ∙
     ap (λ b. cond b None kind) parts.1 ∙ ap (plain_kind verb) number
 
+single : (verb : Verb) (words : List (List ℕ)) (i : ℕ) → has_fault pass.Names verb words i ≡ false → repeats_name verb words i ≡ false
+unfolding has_fault
+single verb words i e = go (repeats_name verb words i) e
+  where
+    go : (b : Bool) → is_some (cond b (Some SameName) None) ≡ false → b ≡ false
+    go true e = cc
+    go false e = refl
+
 none_from : {X : Type 0} (o : Option X) → is_some o ≡ false → o ≡ None
 none_from None e = refl
 none_from (Some x) e = cc
@@ -96,13 +105,13 @@ NamesTwo verb = (plain_kind verb 0 ≡ Some Name) × (plain_kind verb 1 ≡ Some
 
 -- the image and its error correction file
 differ : (verb : Verb) (words : List (List ℕ)) → IsClear verb words → NamesTwo verb → (i j : ℕ) → slice_get (plain_places verb words (length words)) 0 ≡ Some i → slice_get (plain_places verb words (length words)) 1 ≡ Some j → word_at words i ≢ word_at words j
-unfolding plain_places repeats_name clash
+unfolding repeats_name clash
 differ verb words clear kinds i j first second same =
     let one = found (is_plain verb words) (length words) 0 i first in
     let two = found (is_plain verb words) (length words) 1 j second in
     let kind_one : kind_at verb words i ≡ Some Name = kind_of_plain verb words i 0 one.pass one.number ∙ kinds.0 in
     let kind_two : kind_at verb words j ≡ Some Name = kind_of_plain verb words j 1 two.pass two.number ∙ kinds.1 in
-    let unrepeated : repeats_name verb words j ≡ false = find_none_at (repeats_name verb words) j (length words) two.pos two.less clear.distinct in
+    let unrepeated : repeats_name verb words j ≡ false = single verb words j (find_none_at (has_fault pass.Names verb words) j (length words) two.pos two.less clear.distinct) in
     let no_clash : clash verb words j i ≡ false =
     find_none_at (clash verb words j) i j one.pos (in_order (is_plain verb words) (length words) i j one two) (none_from (find (clash verb words j) (places_below j)) unrepeated) in
     let text = bytes_eq (word_at words j) (word_at words i) in
@@ -135,15 +144,6 @@ names_differ Read words clear = second (plain_if_any Read words 1) refl
         let first : slice_get places 0 ≡ Some (get_or places 0 0) = slice_get-get_or places 0 0 (omega arith) in
         rw first (differ Read words clear (refl, refl) _ j first is)
 names_differ Demo words clear = tt
-
--- the drives of a command are within the words
-pub drives_within : (n : ℕ) (asked : Command) → IsWithin n asked → AreWithin n (drives_of asked)
-drives_within n (command.Create image ecc parity workers) within i = tt
-drives_within n (command.Fix image ecc workers cut) within i = tt
-drives_within n (command.Verify image ecc) within i = tt
-drives_within n (command.Scan ecc drives) within i = within.1 i
-drives_within n (command.Read image ecc drives adaptive jump tries workers) within i = within.2 i
-drives_within n (command.Demo number sectors parity lost) within i = tt
 
 -- one name more
 pub names-more : (f : ℕ → List ℕ) (places : List ℕ) (i place : ℕ) → slice_get places i ≡ Some place → map f (take (i + 1) places) ≡ map f (take i places) ++ f place ∷ []

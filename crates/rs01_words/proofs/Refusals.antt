@@ -1,6 +1,6 @@
 -- What makes each refusal, and what rules it out.
-use Rattle.std.proofs.Common.{◌≡◌, ℕ, zero, suc, [], ◌∷◌, ◌-◌, ◌<◌, ◌≤◌, true, false, ◌&&◌, cond, List, length, sym, ◌∙◌, ap, refl, arith, Some, None, Option}
-use Rattle.std.specs.Prelude.{is_some, nat_lt, option_map}
+use Rattle.std.proofs.Common.{◌≡◌, ℕ, zero, suc, [], ◌∷◌, ◌-◌, ◌<◌, ◌≤◌, Bool, true, false, ◌&&◌, cond, List, length, sym, ◌∙◌, ap, refl, arith, Some, None, Option}
+use Rattle.std.specs.Prelude.{is_some, nat_le, nat_lt, option_map}
 use Rattle.std.specs.List.{find, slice_get}
 use Rattle.std.specs.Option.{option_and_then}
 use Rattle.std.proofs.lemmas.Bool.Decides.{nat_tests}
@@ -8,40 +8,29 @@ use Rattle.std.specs.Str.{bytes_eq}
 use Rattle.rs01_words.specs.declared.table.Verb.{Verb}
 use Rattle.rs01_words.specs.declared.table.Kind.{Kind}
 use Rattle.rs01_words.specs.declared.fault.WordFault.{WordFault}
-use Rattle.rs01_words.specs.declared.fault.WordFault.TheVariants.{Missing, SameName}
-use Rattle.rs01_words.specs.Table.{needed_of}
+use Rattle.rs01_words.specs.declared.fault.WordFault.TheVariants.{Missing}
+use Rattle.rs01_words.specs.declared.refusal.Pass.{Pass}
+use Rattle.rs01_words.specs.Grammar.{needed_of}
 use Rattle.rs01_words.specs.Line.{word_at, kind_at, places_below, plain_places}
-use Rattle.rs01_words.specs.Refusal.{fault_at, has_fault, refused, first_fault, missing_word, must_differ, clash, repeats_name, same_name}
+use Rattle.rs01_words.specs.Refusal.{fault_in, has_fault, refused, first_fault, missing_word, must_differ, clash, repeats_name}
 use Rattle.rs01_words.proofs.PlaceLists.{find_at, find_end}
 
 -- the first fault
-pub first_fault-Some : (verb : Verb) (words : List (List ℕ)) (i : ℕ) (fault : WordFault) → 0 < i → i < length words → Some fault ≡ fault_at verb words i → find (has_fault verb words) (places_below i) ≡ None → Some (refused fault i) ≡ first_fault verb words
+pub first_fault-Some : (pass : Pass) (verb : Verb) (words : List (List ℕ)) (i : ℕ) (fault : WordFault) → 0 < i → i < length words → Some fault ≡ fault_in pass verb words i → find (has_fault pass verb words) (places_below i) ≡ None → Some (refused fault i) ≡ first_fault pass verb words
 unfolding first_fault has_fault
-first_fault-Some verb words i fault pos less is none =
-    let found = find_at (has_fault verb words) i (length words) pos less (sym (ap is_some is)) none in
-    ap (option_map (λ fault. refused fault i)) is ∙ sym (ap (option_and_then (λ i. option_map (λ fault. refused fault i) (fault_at verb words i))) found)
+first_fault-Some pass verb words i fault pos less is none =
+    let found = find_at (has_fault pass verb words) i (length words) pos less (sym (ap is_some is)) none in
+    ap (option_map (λ fault. refused fault i)) is ∙ sym (ap (option_and_then (λ i. option_map (λ fault. refused fault i) (fault_in pass verb words i))) found)
 
-pub has_fault-no : (verb : Verb) (words : List (List ℕ)) (i : ℕ) → None ≡ fault_at verb words i → has_fault verb words i ≡ false
+pub has_fault-no : (pass : Pass) (verb : Verb) (words : List (List ℕ)) (i : ℕ) → None ≡ fault_in pass verb words i → has_fault pass verb words i ≡ false
 unfolding has_fault
-has_fault-no verb words i none = sym (ap is_some none)
+has_fault-no pass verb words i none = sym (ap is_some none)
 
 -- no fault
-pub first_fault-None : (verb : Verb) (words : List (List ℕ)) (place : ℕ) → length words ≤ place → (1 ≤ length words → place ≤ length words) → find (has_fault verb words) (places_below place) ≡ None → None ≡ first_fault verb words
+pub first_fault-None : (pass : Pass) (verb : Verb) (words : List (List ℕ)) (place : ℕ) → length words ≤ place → (1 ≤ length words → place ≤ length words) → find (has_fault pass verb words) (places_below place) ≡ None → None ≡ first_fault pass verb words
 unfolding first_fault
-first_fault-None verb words place past upto none =
-    sym (ap (option_and_then (λ i. option_map (λ fault. refused fault i) (fault_at verb words i))) (find_end (has_fault verb words) place (length words) past upto none))
-
--- the first name that clashes
-pub same_name-Some : (verb : Verb) (words : List (List ℕ)) (i : ℕ) → 0 < i → i < length words → repeats_name verb words i ≡ true → find (repeats_name verb words) (places_below i) ≡ None → Some (refused SameName i) ≡ same_name verb words
-unfolding same_name
-same_name-Some verb words i pos less repeats none =
-    sym (ap (option_map (λ i. refused SameName i)) (find_at (repeats_name verb words) i (length words) pos less repeats none))
-
--- no name clashes
-pub same_name-None : (verb : Verb) (words : List (List ℕ)) (place : ℕ) → length words ≤ place → (1 ≤ length words → place ≤ length words) → find (repeats_name verb words) (places_below place) ≡ None → None ≡ same_name verb words
-unfolding same_name
-same_name-None verb words place past upto none =
-    sym (ap (option_map (λ i. refused SameName i)) (find_end (repeats_name verb words) place (length words) past upto none))
+first_fault-None pass verb words place past upto none =
+    sym (ap (option_and_then (λ i. option_map (λ fault. refused fault i) (fault_in pass verb words i))) (find_end (has_fault pass verb words) place (length words) past upto none))
 
 -- a name that equals an earlier one
 pub repeats_name-true : (verb : Verb) (words : List (List ℕ)) (i j : ℕ) → 0 < j → j < i → clash verb words i j ≡ true → find (clash verb words i) (places_below j) ≡ None → true ≡ repeats_name verb words i
@@ -64,6 +53,18 @@ some_within : {X : Type 0} (xs : List X) (k : ℕ) → is_some (slice_get xs k) 
 some_within [] k some = cc
 some_within (x ∷ xs) zero some = omega arith
 some_within (x ∷ xs) (suc k) some = omega (arith, some_within xs k some)
+
+-- so many are there
+pub enough : {X : Type 0} (xs : List X) (n : ℕ) → 0 < n → is_some (slice_get xs (n - 1)) ≡ nat_le n (length xs)
+enough xs n pos = go (is_some (slice_get xs (n - 1))) refl
+  where
+    go : (b : Bool) → is_some (slice_get xs (n - 1)) ≡ b → b ≡ nat_le n (length xs)
+    go true e =
+        let within = some_within xs (n - 1) e in
+        grind (arith, nat_tests)
+    go false e =
+        let past = none_past xs (n - 1) e in
+        grind (arith, nat_tests)
 
 -- a plain word is missing
 pub missing_word-Some : (verb : Verb) (words : List (List ℕ)) (needed n : ℕ) (place : Option ℕ) → needed ≡ needed_of verb → n ≡ length words → 0 < needed → place ≡ slice_get (plain_places verb words n) (needed - 1) → is_some place ≡ false → Some (refused Missing n) ≡ missing_word verb words
@@ -94,7 +95,7 @@ missing_word-zero verb words needed is nothing =
     let test : nat_lt (length (plain_places verb words (length words))) (needed_of verb) ≡ false = grind (arith, nat_tests) in
     sym (ap (λ b. cond b (Some (refused Missing (length words))) None) test)
 
--- `clash` by the kinds of the two words
-pub clash-is : (verb : Verb) (words : List (List ℕ)) (i j : ℕ) (kind other : Option Kind) → kind ≡ kind_at verb words i → other ≡ kind_at verb words j → (must_differ kind other && bytes_eq (word_at words i) (word_at words j)) ≡ clash verb words i j
+-- `clash` by the two words and what they stand for
+pub clash-is : (verb : Verb) (words : List (List ℕ)) (i j : ℕ) (kind other : Option Kind) (word earlier : List ℕ) → kind ≡ kind_at verb words i → other ≡ kind_at verb words j → word ≡ word_at words i → earlier ≡ word_at words j → (must_differ kind other && bytes_eq word earlier) ≡ clash verb words i j
 unfolding clash
-clash-is verb words i j kind other one two = rw one (rw two refl)
+clash-is verb words i j kind other word earlier one two same before = rw one (rw two (rw same (rw before refl)))

@@ -1,4 +1,4 @@
-pub mod Table
+pub mod Grammar
 pub mod Value
 pub mod Line
 pub mod Refusal

@@ -1,12 +1,17 @@
 -- What each word of a command line is: an option, the value of the option before it, or a plain word.
-use Rattle.std.specs.Prelude.{ℕ, zero, suc, ◌-◌, List, [], Bool, false, not, ◌&&◌, ◌==◌, nat_lt, Option, None, is_some, slice_index, length, filter, if◌then◌else◌}
+use Rattle.std.specs.Prelude.{ℕ, zero, suc, ◌≡◌, ◌<◌, ◌-◌, List, [], Bool, false, not, ◌&&◌, ◌==◌, nat_lt, Option, None, is_some, slice_index, length, map, filter, string_bytes, if◌then◌else◌}
+use Rattle.std.specs.declared.string.String.{String}
 use Rattle.std.specs.List.{slice_index_or, range_with_len}
 use Rattle.std.specs.Option.{option_and_then}
 use Rattle.std.specs.Str.{bytes_eq}
 use Rattle.rs01_words.specs.declared.table.Kind.{Kind}
 use Rattle.rs01_words.specs.declared.table.Verb.{Verb}
 use Rattle.rs01_words.specs.declared.walk.Before.{Before}
-use Rattle.rs01_words.specs.Table.{option_of, plain_kind}
+use Rattle.rs01_words.specs.Grammar.{option_of, plain_kind, row_of}
+
+-- the letters of the words
+abbrev pub texts : {Z : Type 0} → List (String Z) → List (List ℕ)
+texts words = map string_bytes words
 
 -- the word at a place, and no bytes past the last one
 abbrev pub word_at : List (List ℕ) → ℕ → List ℕ
@@ -18,7 +23,7 @@ is_option word = (slice_index word 0 == 45) && (slice_index word 1 == 45)
 
 -- what the value of an option is, where the command has the option and it takes one
 abbrev pub value_kind : Verb → List ℕ → Option Kind
-value_kind verb word = option_and_then (λ rule. rule.value) (option_of verb word)
+value_kind verb word = option_and_then (λ option. (row_of option).value) (option_of verb word)
 
 -- whether the word at a place is the value of the option before it
 unfoldable pub is_value : Verb → List (List ℕ) → ℕ → Bool
@@ -38,13 +43,17 @@ is_given verb words option i = not (is_value verb words i) && bytes_eq (word_at 
 abbrev pub places_below : ℕ → List ℕ
 places_below n = range_with_len 1 (n - 1)
 
+-- the places of the words after the command, below n, that pass a test
+unfoldable pub places_where : (ℕ → Bool) → ℕ → List ℕ
+places_where test n = filter test (places_below n)
+
 -- the places of the plain words below n
-unfoldable pub plain_places : Verb → List (List ℕ) → ℕ → List ℕ
-plain_places verb words n = filter (is_plain verb words) (places_below n)
+abbrev pub plain_places : Verb → List (List ℕ) → ℕ → List ℕ
+plain_places verb words n = places_where (is_plain verb words) n
 
 -- the places below n at which an option is given
-unfoldable pub given_places : Verb → List (List ℕ) → List ℕ → ℕ → List ℕ
-given_places verb words option n = filter (is_given verb words option) (places_below n)
+abbrev pub given_places : Verb → List (List ℕ) → List ℕ → ℕ → List ℕ
+given_places verb words option n = places_where (is_given verb words option) n
 
 -- what the word at a place stands for; an option stands for none, nor does a plain word too many
 unfoldable pub kind_at : Verb → List (List ℕ) → ℕ → Option Kind
@@ -56,3 +65,7 @@ kind_at verb words i =
 -- what the words before a place say of it: whether it is a value, and how many plain words there are
 abbrev pub before_at : Verb → List (List ℕ) → ℕ → Before
 before_at verb words i = record { is_value = is_value verb words i; plain = length (plain_places verb words i) }
+
+-- this is known of a place after the command
+abbrev pub IsKnown : Verb → List (List ℕ) → ℕ → Before → Type 0
+IsKnown verb words i before = (0 < i) × (before ≡ before_at verb words i)

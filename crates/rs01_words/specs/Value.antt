@@ -1,12 +1,11 @@
 -- The value that a word stands for, by its kind.
-use Rattle.std.specs.Prelude.{ℕ, ◌+◌, ◌-◌, ◌*◌, List, Bool, true, not, ◌&&◌, ◌==◌, nat_le, Option, Some, None, Result, Ok, Err, option_map, unwrap_or, fold, length, if◌then◌else◌}
+use Rattle.std.specs.Prelude.{ℕ, ◌≤◌, ◌+◌, ◌-◌, ◌*◌, List, Bool, true, not, ◌&&◌, ◌==◌, nat_le, Option, Some, None, Result, Ok, Err, option_map, unwrap_or, fold, length, if◌then◌else◌}
 use Rattle.std.specs.List.{list_all}
 use Rattle.std.specs.Result.{result_unwrap_or}
 use Rattle.rs01_words.specs.declared.table.Kind.{Kind}
 use Rattle.rs01_words.specs.declared.table.Kind.TheVariants.{Name, Drive, Number, Parity}
-use Rattle.rs01_words.specs.declared.table.OptionRule.{OptionRule}
-use Rattle.rs01_words.specs.declared.table.TheConstants.{PRESETS}
-use Rattle.rs01_words.specs.Table.{preset_of}
+use Rattle.rs01_words.specs.declared.table.OptionWord.{OptionWord}
+use Rattle.rs01_words.specs.Grammar.{presets, preset_of, row_of}
 use Rattle.rs01_words.specs.declared.fault.WordFault.{WordFault}
 use Rattle.rs01_words.specs.declared.fault.WordFault.TheVariants.{BadNumber, OutOfRange}
 
@@ -52,40 +51,26 @@ kind_high Drive = 0
 kind_high (Number low high) = high
 kind_high (Parity low high) = high
 
+-- a number in the range of its kind
+abbrev pub IsOf : Kind → ℕ → Type 0
+IsOf kind n = (kind_low kind ≤ n) × (n ≤ kind_high kind)
+
 -- whether a kind's range has a number; that of parity bytes has all presets
 abbrev pub is_sound : Kind → Bool
 is_sound Name = true
 is_sound Drive = true
 is_sound (Number low high) = nat_le low high
-is_sound (Parity low high) = list_all (λ preset. nat_le low preset.1 && nat_le preset.1 high) PRESETS
+is_sound (Parity low high) = nat_le low high && list_all (λ preset. nat_le low preset.1 && nat_le preset.1 high) presets
 
 -- the number that a word stands for, and the one given for a word that stands for none
 abbrev pub number_or : Kind → ℕ → List ℕ → ℕ
 number_or kind other word = result_unwrap_or (value_of kind word) other
 
--- the same for the value of an option, where it takes one
-abbrev pub value_low : Option Kind → ℕ
-value_low None = 0
-value_low (Some kind) = kind_low kind
-
-abbrev pub value_high : Option Kind → ℕ
-value_high None = 0
-value_high (Some kind) = kind_high kind
-
--- whether an option's default lies in its range
-abbrev pub is_sound_rule : OptionRule → Bool
-is_sound_rule rule =
-    is_sound_value rule.value && (nat_le (value_low rule.value) rule.default && nat_le rule.default (value_high rule.value))
-  where
-    is_sound_value : Option Kind → Bool
-    is_sound_value None = true
-    is_sound_value (Some kind) = is_sound kind
+-- what the value of an option is; one that takes none has the range of a name
+abbrev pub option_kind : OptionWord → Kind
+option_kind option = unwrap_or (row_of option).value Name
 
 -- the number of an option: that of its value where it is given, else its default
-abbrev pub given_number : OptionRule → Option (List ℕ) → ℕ
-given_number rule None = rule.default
-given_number rule (Some word) = number_or_default rule.value rule.default word
-  where
-    number_or_default : Option Kind → ℕ → List ℕ → ℕ
-    number_or_default None other word = other
-    number_or_default (Some kind) other word = number_or kind other word
+abbrev pub given_number : OptionWord → Option (List ℕ) → ℕ
+given_number option None = (row_of option).default
+given_number option (Some word) = number_or (option_kind option) (row_of option).default word

@@ -1,7 +1,7 @@
 //! The names of the drives.
-ghost use Rattle.std.specs.Prelude.{◌≡◌, length, map, string_bytes, IfOk};
-ghost use Rattle.rs01_words.specs.Line.{word_at};
-ghost use Rattle.rs01_words.specs.Command.{AreWithin, drives_of, drive_names_of};
+ghost use Rattle.std.specs.Prelude.{◌≡◌, length, map, IfOk};
+ghost use Rattle.rs01_words.specs.Line.{texts, word_at};
+ghost use Rattle.rs01_words.specs.Command.{AreWithin, drive_names_of, parts_of};
 
 use crate::command::Command;
 use crate::places::Places;
@@ -13,7 +13,7 @@ use std::alloc::{AllocError, Global};
 fn names_at(alloc: Global, words: &[String], places: &Places) -> Result<Vec<String>, AllocError>
     requires { AreWithin (length words.now) places.now }
     ensures { IfOk result (λ names.
-        map string_bytes names.items ≡ map (word_at (map string_bytes words.now)) places.now) }
+        texts names.items ≡ map (word_at (texts words.now)) places.now) }
 {
     let mut names = Vec::new(alloc);
     for i in 0..places.len() {
@@ -26,7 +26,7 @@ fn names_at(alloc: Global, words: &[String], places: &Places) -> Result<Vec<Stri
 
 // The places of the drives that a command takes.
 fn drives_of(asked: Command) -> Places
-    ensures { result ≡ drives_of asked }
+    ensures { result ≡ (parts_of asked).drives }
 {
     match asked {
         Command::Scan { drives, .. } => drives,
@@ -39,7 +39,7 @@ fn drives_of(asked: Command) -> Places
 #[tactic(auto, unfolding(crate::specs::Command::drive_names_of))]
 pub fn drive_names(alloc: Global, words: &[String]) -> Result<Vec<String>, AllocError>
     ensures { IfOk result (λ names.
-        map string_bytes names.items ≡ drive_names_of (map string_bytes words.now)) }
+        texts names.items ≡ drive_names_of (texts words.now)) }
 {
     match read_words(words) {
         Ok(asked) => names_at(alloc, words, &drives_of(asked)),

@@ -1,33 +1,48 @@
 //! What is wrong with the words of a command.
-ghost use Rattle.std.specs.Prelude.{◌≡◌, ◌+◌, ◌<◌, ◌≤◌, ◌==◌, ◌&&◌, length, map, string_bytes, IfNone};
-ghost use Rattle.std.specs.List.{find};
+ghost use Rattle.std.specs.Prelude.{◌≡◌, ◌<◌, ◌≤◌, ◌&&◌, length, nat_le, IfNone};
 ghost use Rattle.std.specs.Str.{bytes_eq};
-ghost use Rattle.rs01_words.specs.Table.{option_of, needed_of};
-ghost use Rattle.rs01_words.specs.Line.{word_at, kind_at, given_places, plain_places, places_below, before_at};
-ghost use Rattle.rs01_words.specs.Refusal.{option_fault, value_fault, fault_at, has_fault, first_fault, missing_word, too_many_lost, must_differ, clash, repeats_name, same_name, refusal_of, IsClear};
+ghost use Rattle.rs01_words.specs.Grammar.{row_of};
+ghost use Rattle.rs01_words.specs.Line.{IsKnown, given_places, kind_at, texts, word_at};
+ghost use Rattle.rs01_words.specs.Refusal.{IsClear, IsComplete, IsFaultless, fault_at, fault_in, first_fault, missing_word, must_differ, option_fault_at, refusal_of, repeats_name, too_many_lost, value_fault};
 
 use crate::fault::{WordFault, WordRefused};
 use crate::look_up::{needed_of, option_of};
 use crate::plain::{plain_at, plain_number};
-use crate::table::{Kind, LOST, SECTORS, Verb};
+use crate::table::{Kind, LOST_SECTORS, MADE_SECTORS, OptionWord, Verb, rule_of};
 use crate::value::value_of;
 use crate::walk::{Before, given_place, is_option, kind_at, next, plain_place, start, word_at};
+
+/// The words are gone through twice.
+#[derive(Clone, Copy)]
+pub enum Pass {
+    /// Each word by itself.
+    Words,
+    /// The names beside the earlier ones.
+    Names,
+}
+
+// Whether the option is given before a place as often as it may be. `word` is how it is written.
+fn is_used_up(verb: Verb, words: &[String], word: &str, place: usize, option: OptionWord) -> bool
+    requires { place ≤ length words.now }
+    ensures { result
+        ≡ nat_le (row_of option).most (length (given_places verb (texts words.now) word.now place)) }
+{
+    let most = rule_of(option).most;
+    given_place(verb, words, word, place, most - 1).is_some()
+}
 
 // The fault of the option at a place.
 fn option_fault(verb: Verb, words: &[String], place: usize) -> Option<WordFault>
     requires { place < length words.now }
-    ensures { result
-        ≡ option_fault (option_of verb (word_at (map string_bytes words.now) place))
-        (length (given_places verb (map string_bytes words.now) (word_at (map string_bytes words.now) place) place))
-        (place + 1 == length words.now) }
+    ensures { result ≡ option_fault_at verb (texts words.now) place }
 {
     let word = word_at(words, place);
     match option_of(verb, word) {
         None => Some(WordFault::UnknownOption),
-        Some(rule) => {
-            if given_place(verb, words, word.as_bytes(), place, rule.again).is_some() {
+        Some(option) => {
+            if is_used_up(verb, words, word, place, option) {
                 Some(WordFault::Repeated)
-            } else if rule.value.is_some() && place + 1 == words.len() {
+            } else if rule_of(option).value.is_some() && place + 1 == words.len() {
                 Some(WordFault::NoValue)
             } else {
                 None
@@ -50,9 +65,8 @@ fn value_fault(kind: Option<Kind>, word: &str) -> Option<WordFault>
 #[tactic(auto, unfolding(crate::specs::Refusal::fault_at))]
 fn fault_at(verb: Verb, words: &[String], place: usize, before: Before) -> Option<WordFault>
     requires inside { place < length words.now }
-    requires after_command { 0 < place }
-    requires known { before ≡ before_at verb (map string_bytes words.now) place }
-    ensures { result ≡ fault_at verb (map string_bytes words.now) place }
+    requires known { IsKnown verb (texts words.now) place before }
+    ensures { result ≡ fault_at verb (texts words.now) place }
 {
     if !before.is_value && is_option(word_at(words, place)) {
         option_fault(verb, words, place)
@@ -61,15 +75,74 @@ fn fault_at(verb: Verb, words: &[String], place: usize, before: Before) -> Optio
     }
 }
 
+// Whether names that stand for this may not be equal. Two drives may.
+fn must_differ(one: Option<Kind>, other: Option<Kind>) -> bool
+    ensures { result ≡ must_differ one other }
+{
+    match (one, other) {
+        (Some(Kind::Name), Some(Kind::Name | Kind::Drive)) => true,
+        (Some(Kind::Drive), Some(Kind::Name)) => true,
+        _ => false,
+    }
+}
+
+// Whether two words are equal names that must differ. `kind` and `other` say what they stand for.
+fn clash(kind: Option<Kind>, word: &str, other: Option<Kind>, earlier: &str) -> bool
+    ensures { result ≡ (must_differ kind other && bytes_eq word.now earlier.now) }
+{
+    must_differ(kind, other) && word == earlier
+}
+
+// Whether the name at a place equals an earlier one that it must differ from. `kind` says what the
+// word there stands for.
+fn repeats_name(verb: Verb, words: &[String], place: usize, kind: Option<Kind>) -> bool
+    requires inside { place < length words.now }
+    requires stands_for { kind ≡ kind_at verb (texts words.now) place }
+    ensures { result ≡ repeats_name verb (texts words.now) place }
+{
+    let mut before = start();
+    for earlier in 1..place {
+        let other = kind_at(verb, words, earlier, before);
+        if clash(kind, word_at(words, place), other, word_at(words, earlier)) {
+            return true;
+        }
+        before = next(verb, words, earlier, before);
+    }
+    false
+}
+
+// The fault of the word at a place, in one of the two passes.
+fn fault_in(
+    pass: Pass,
+    verb: Verb,
+    words: &[String],
+    place: usize,
+    before: Before,
+) -> Option<WordFault>
+    requires inside { place < length words.now }
+    requires known { IsKnown verb (texts words.now) place before }
+    ensures { result ≡ fault_in pass verb (texts words.now) place }
+{
+    match pass {
+        Pass::Words => fault_at(verb, words, place, before),
+        Pass::Names => {
+            if repeats_name(verb, words, place, kind_at(verb, words, place, before)) {
+                Some(WordFault::SameName)
+            } else {
+                None
+            }
+        }
+    }
+}
+
 // The first fault from left to right.
-fn first_fault(verb: Verb, words: &[String]) -> Option<WordRefused>
-    ensures value { result ≡ first_fault verb (map string_bytes words.now) }
-    ensures clear { IfNone result
-        (find (has_fault verb (map string_bytes words.now)) (places_below (length (map string_bytes words.now))) ≡ None) }
+fn first_fault(pass: Pass, verb: Verb, words: &[String]) -> Option<WordRefused>
+    ensures value { result ≡ first_fault pass verb (texts words.now) }
+    ensures clear { IfNone result (IsFaultless pass verb (texts words.now)) }
 {
     let mut before = start();
     for place in 1..words.len() {
-        if let Some(fault) = fault_at(verb, words, place, before) {
+        if let Some(fault) = fault_in(pass, verb, words, place, before) {
             return Some(WordRefused { fault, place });
         }
         before = next(verb, words, place, before);
@@ -79,9 +152,8 @@ fn first_fault(verb: Verb, words: &[String]) -> Option<WordRefused>
 
 // A plain word that the command needs isn't there.
 fn missing_word(verb: Verb, words: &[String]) -> Option<WordRefused>
-    ensures value { result ≡ missing_word verb (map string_bytes words.now) }
-    ensures clear { IfNone result
-        (needed_of verb ≤ length (plain_places verb (map string_bytes words.now) (length (map string_bytes words.now)))) }
+    ensures value { result ≡ missing_word verb (texts words.now) }
+    ensures clear { IfNone result (IsComplete verb (texts words.now)) }
 {
     let needed = needed_of(verb);
     if needed > 0 && plain_place(verb, words, needed - 1).is_none() {
@@ -97,12 +169,12 @@ fn missing_word(verb: Verb, words: &[String]) -> Option<WordRefused>
 #[tactic(auto, unfolding(crate::specs::Refusal::too_many_lost))]
 fn too_many_lost(verb: Verb, words: &[String]) -> Option<WordRefused>
     requires { 0 < length words.now }
-    ensures { result ≡ too_many_lost verb (map string_bytes words.now) }
+    ensures { result ≡ too_many_lost verb (texts words.now) }
 {
     match verb {
         Verb::Demo => {
-            if plain_number(verb, words, 1, SECTORS.kind)
-                < plain_number(verb, words, 3, LOST.kind)
+            if plain_number(verb, words, 1, MADE_SECTORS)
+                < plain_number(verb, words, 3, LOST_SECTORS)
             {
                 Some(WordRefused {
                     fault: WordFault::OutOfRange,
@@ -116,80 +188,14 @@ fn too_many_lost(verb: Verb, words: &[String]) -> Option<WordRefused>
     }
 }
 
-// Whether names that stand for this may not be equal. Two drives may.
-fn must_differ(one: Option<Kind>, other: Option<Kind>) -> bool
-    ensures { result ≡ must_differ one other }
-{
-    match (one, other) {
-        (Some(Kind::Name), Some(Kind::Name | Kind::Drive)) => true,
-        (Some(Kind::Drive), Some(Kind::Name)) => true,
-        _ => false,
-    }
-}
-
-// Whether two places have equal names that must differ. `kind` and `other` say what the words
-// there stand for.
-fn clash(
-    words: &[String],
-    place: usize,
-    kind: Option<Kind>,
-    earlier: usize,
-    other: Option<Kind>,
-) -> bool
-    requires inside { place < length words.now }
-    requires earlier_inside { earlier < length words.now }
-    ensures { result
-        ≡ (must_differ kind other
-        && bytes_eq (word_at (map string_bytes words.now) place) (word_at (map string_bytes words.now) earlier)) }
-{
-    must_differ(kind, other) && word_at(words, place) == word_at(words, earlier)
-}
-
-// Whether the name at a place equals an earlier one that it must differ from. `kind` says what the
-// word there stands for.
-fn repeats_name(verb: Verb, words: &[String], place: usize, kind: Option<Kind>) -> bool
-    requires inside { place < length words.now }
-    requires stands_for { kind ≡ kind_at verb (map string_bytes words.now) place }
-    ensures { result ≡ repeats_name verb (map string_bytes words.now) place }
-{
-    let mut before = start();
-    for earlier in 1..place {
-        let other = kind_at(verb, words, earlier, before);
-        if clash(words, place, kind, earlier, other) {
-            return true;
-        }
-        before = next(verb, words, earlier, before);
-    }
-    false
-}
-
-// The first name that equals an earlier one that it must differ from.
-fn same_name(verb: Verb, words: &[String]) -> Option<WordRefused>
-    ensures value { result ≡ same_name verb (map string_bytes words.now) }
-    ensures clear { IfNone result
-        (find (repeats_name verb (map string_bytes words.now)) (places_below (length (map string_bytes words.now))) ≡ None) }
-{
-    let mut before = start();
-    for place in 1..words.len() {
-        if repeats_name(verb, words, place, kind_at(verb, words, place, before)) {
-            return Some(WordRefused {
-                fault: WordFault::SameName,
-                place,
-            });
-        }
-        before = next(verb, words, place, before);
-    }
-    None
-}
-
 /// What is wrong with the words of a command: the first fault from left to right, then a missing
 /// word, then the comparison of `demo`, then equal names.
 pub fn refusal_of(verb: Verb, words: &[String]) -> Option<WordRefused>
     requires { 0 < length words.now }
-    ensures value { result ≡ refusal_of verb (map string_bytes words.now) }
-    ensures clear { IfNone result (IsClear verb (map string_bytes words.now)) }
+    ensures value { result ≡ refusal_of verb (texts words.now) }
+    ensures clear { IfNone result (IsClear verb (texts words.now)) }
 {
-    if let Some(refused) = first_fault(verb, words) {
+    if let Some(refused) = first_fault(Pass::Words, verb, words) {
         return Some(refused);
     }
     if let Some(refused) = missing_word(verb, words) {
@@ -198,5 +204,5 @@ pub fn refusal_of(verb: Verb, words: &[String]) -> Option<WordRefused>
     if let Some(refused) = too_many_lost(verb, words) {
         return Some(refused);
     }
-    same_name(verb, words)
+    first_fault(Pass::Names, verb, words)
 }

@@ -1,16 +1,11 @@
 //! The table of the command line: the commands, their plain words and their options.
 //!
-//! The code and the definition of the grammar read these same rows. A further command is a row of
-//! `COMMANDS` with its plain words, a further option a rule and a row for each command that has it.
-
-/// The most letters that a word of the table has.
-pub const LONGEST: usize = 10;
-
-/// How a word of the table is spelled: its letters, and zeros behind them.
-pub type Spelling = [u8; LONGEST];
+//! Each function gives one column of the grammar's rows in `specs/Grammar.antt`, and is proved to.
+ghost use Rattle.std.specs.Prelude.{◌≡◌, ◌<◌};
+ghost use Rattle.rs01_words.specs.Grammar.{options_of, plain_words_of, preset_of, row_of, rule_of, verb_of};
 
 /// A command.
-#[derive(Clone, Copy, PartialEq, Eq)]
+#[derive(Clone, Copy)]
 pub enum Verb {
     Create,
     Fix,
@@ -18,6 +13,25 @@ pub enum Verb {
     Scan,
     Read,
     Demo,
+}
+
+/// An option.
+#[derive(Clone, Copy)]
+pub enum OptionWord {
+    /// The parity bytes of a codeword.
+    Parity,
+    /// How many threads work.
+    Workers,
+    /// What stands behind the image is cut off.
+    Cut,
+    /// The name of a drive.
+    Drive,
+    /// The largest unread stretch is halved, where linear reading goes on in order.
+    Adaptive,
+    /// How many sectors linear reading goes on after a failed one.
+    Jump,
+    /// How often a sector is asked for.
+    Tries,
 }
 
 /// What a word stands for that is no option.
@@ -41,14 +55,13 @@ pub struct PlainWord {
     pub needed: bool,
 }
 
-/// What the grammar says of an option.
+/// What the grammar says of an option beside its word.
 #[derive(Clone, Copy)]
 pub struct OptionRule {
-    pub spelling: Spelling,
     /// What its value is. None where it takes no value.
     pub value: Option<Kind>,
-    /// How often it may be given again after the first time.
-    pub again: usize,
+    /// How often it may be given.
+    pub most: usize,
     /// The number that holds where the option isn't given.
     pub default: u64,
 }
@@ -56,165 +69,167 @@ pub struct OptionRule {
 /// The most drives that a command takes.
 pub const MOST_DRIVES: usize = 16;
 
-/// The parity bytes of the preset `normal`.
-pub const NORMAL: u64 = 32;
-
 /// How many parity bytes a codeword may have.
-pub const PARITY_RANGE: Kind = Kind::Parity { low: 8, high: 100 };
+pub const PARITY_BYTES: Kind = Kind::Parity { low: 8, high: 100 };
 
-/// The name of an image.
-pub const IMAGE: PlainWord = PlainWord {
+/// How many threads may work.
+pub const THREADS: Kind = Kind::Number { low: 1, high: 32 };
+
+/// How many sectors linear reading may go on after a failed one.
+pub const JUMP_LENGTHS: Kind = Kind::Number {
+    low: 1,
+    high: 1_048_576,
+};
+
+/// How often a sector may be asked for.
+pub const ASKS: Kind = Kind::Number { low: 1, high: 16 };
+
+/// The numbers from which `demo` makes an image.
+pub const SEEDS: Kind = Kind::Number {
+    low: 0,
+    high: u64::MAX,
+};
+
+/// How many sectors `demo` may make.
+pub const MADE_SECTORS: Kind = Kind::Number {
+    low: 1,
+    high: 65_536,
+};
+
+/// How many sectors `demo` may lose.
+pub const LOST_SECTORS: Kind = Kind::Number {
+    low: 0,
+    high: 65_536,
+};
+
+/// A file's name that must be there.
+const NAME: PlainWord = PlainWord {
     kind: Kind::Name,
     needed: true,
 };
 
-/// The name of an error correction file.
-pub const ECC: PlainWord = PlainWord {
-    kind: Kind::Name,
-    needed: true,
-};
-
-/// The name of an error correction file, which may be left out.
-pub const ECC_IF_ANY: PlainWord = PlainWord {
+/// A file's name that may be left out.
+const NAME_IF_ANY: PlainWord = PlainWord {
     kind: Kind::Name,
     needed: false,
 };
 
-/// The number from which `demo` makes its image.
-pub const SEED: PlainWord = PlainWord {
-    kind: Kind::Number {
-        low: 0,
-        high: u64::MAX,
-    },
-    needed: true,
-};
+/// The number of the preset that a word names.
+pub fn preset_of(word: &str) -> Option<u64>
+    ensures { result ≡ preset_of word.now }
+{
+    match word {
+        "normal" => Some(32),
+        "high" => Some(64),
+        _ => None,
+    }
+}
 
-/// How many sectors `demo` makes.
-pub const SECTORS: PlainWord = PlainWord {
-    kind: Kind::Number {
-        low: 1,
-        high: 65_536,
-    },
-    needed: true,
-};
+/// The command that a word names.
+pub fn verb_of(word: &str) -> Option<Verb>
+    ensures { result ≡ verb_of word.now }
+{
+    match word {
+        "create" => Some(Verb::Create),
+        "fix" => Some(Verb::Fix),
+        "verify" => Some(Verb::Verify),
+        "scan" => Some(Verb::Scan),
+        "read" => Some(Verb::Read),
+        "demo" => Some(Verb::Demo),
+        _ => None,
+    }
+}
 
-/// The parity bytes of a codeword.
-pub const PARITY_BYTES: PlainWord = PlainWord {
-    kind: PARITY_RANGE,
-    needed: true,
-};
+/// The plain words of a command, in their order.
+pub fn plain_words_of(verb: Verb) -> &'static [PlainWord]
+    ensures { result.now ≡ plain_words_of verb }
+{
+    match verb {
+        Verb::Create | Verb::Fix | Verb::Verify => &[NAME, NAME],
+        Verb::Scan => &[NAME_IF_ANY],
+        Verb::Read => &[NAME, NAME_IF_ANY],
+        Verb::Demo => &[
+            PlainWord {
+                kind: SEEDS,
+                needed: true,
+            },
+            PlainWord {
+                kind: MADE_SECTORS,
+                needed: true,
+            },
+            PlainWord {
+                kind: PARITY_BYTES,
+                needed: true,
+            },
+            PlainWord {
+                kind: LOST_SECTORS,
+                needed: true,
+            },
+        ],
+    }
+}
 
-/// How many sectors `demo` loses.
-pub const LOST: PlainWord = PlainWord {
-    kind: Kind::Number {
-        low: 0,
-        high: 65_536,
-    },
-    needed: true,
-};
+/// The options of a command.
+pub fn options_of(verb: Verb) -> &'static [OptionWord]
+    ensures { result.now ≡ options_of verb }
+{
+    match verb {
+        Verb::Create => &[OptionWord::Parity, OptionWord::Workers],
+        Verb::Fix => &[OptionWord::Workers, OptionWord::Cut],
+        Verb::Verify | Verb::Demo => &[],
+        Verb::Scan => &[OptionWord::Drive],
+        Verb::Read => &[
+            OptionWord::Drive,
+            OptionWord::Adaptive,
+            OptionWord::Jump,
+            OptionWord::Tries,
+            OptionWord::Workers,
+        ],
+    }
+}
 
-/// `--parity`: the parity bytes of a codeword.
-pub const PARITY: OptionRule = OptionRule {
-    spelling: *b"--parity\0\0",
-    value: Some(PARITY_RANGE),
-    again: 0,
-    default: NORMAL,
-};
+/// How an option is written.
+pub fn text_of(option: OptionWord) -> &'static str
+    ensures { result.now ≡ (row_of option).text }
+{
+    match option {
+        OptionWord::Parity => "--parity",
+        OptionWord::Workers => "--workers",
+        OptionWord::Cut => "--cut",
+        OptionWord::Drive => "--drive",
+        OptionWord::Adaptive => "--adaptive",
+        OptionWord::Jump => "--jump",
+        OptionWord::Tries => "--tries",
+    }
+}
 
-/// `--workers`: how many threads work.
-pub const WORKERS: OptionRule = OptionRule {
-    spelling: *b"--workers\0",
-    value: Some(Kind::Number { low: 1, high: 32 }),
-    again: 0,
-    default: 2,
-};
+/// What the grammar says of an option beside its word.
+pub fn rule_of(option: OptionWord) -> OptionRule
+    ensures rule { result ≡ rule_of option }
+    ensures some { 0 < result.most }
+{
+    match option {
+        OptionWord::Parity => once(Some(PARITY_BYTES), 32),
+        OptionWord::Workers => once(Some(THREADS), 2),
+        OptionWord::Cut => once(None, 0),
+        OptionWord::Drive => OptionRule {
+            value: Some(Kind::Drive),
+            most: MOST_DRIVES,
+            default: 0,
+        },
+        OptionWord::Adaptive => once(None, 0),
+        OptionWord::Jump => once(Some(JUMP_LENGTHS), 1),
+        OptionWord::Tries => once(Some(ASKS), 1),
+    }
+}
 
-/// `--cut`: what stands behind the image is cut off.
-pub const CUT: OptionRule = OptionRule {
-    spelling: *b"--cut\0\0\0\0\0",
-    value: None,
-    again: 0,
-    default: 0,
-};
-
-/// `--drive`: the name of a drive.
-pub const DRIVE: OptionRule = OptionRule {
-    spelling: *b"--drive\0\0\0",
-    value: Some(Kind::Drive),
-    again: MOST_DRIVES - 1,
-    default: 0,
-};
-
-/// `--adaptive`: the largest unread stretch is halved, where linear reading goes on in order.
-pub const ADAPTIVE: OptionRule = OptionRule {
-    spelling: *b"--adaptive",
-    value: None,
-    again: 0,
-    default: 0,
-};
-
-/// `--jump`: how many sectors linear reading goes on after a failed one.
-pub const JUMP: OptionRule = OptionRule {
-    spelling: *b"--jump\0\0\0\0",
-    value: Some(Kind::Number {
-        low: 1,
-        high: 1_048_576,
-    }),
-    again: 0,
-    default: 1,
-};
-
-/// `--tries`: how often a sector is asked for.
-pub const TRIES: OptionRule = OptionRule {
-    spelling: *b"--tries\0\0\0",
-    value: Some(Kind::Number { low: 1, high: 16 }),
-    again: 0,
-    default: 1,
-};
-
-/// The numbers of parity bytes that have names.
-pub static PRESETS: [(Spelling, u64); 2] = [
-    (*b"normal\0\0\0\0", NORMAL),
-    (*b"high\0\0\0\0\0\0", 64),
-];
-
-/// The words that name the commands.
-pub static COMMANDS: [(Spelling, Verb); 6] = [
-    (*b"create\0\0\0\0", Verb::Create),
-    (*b"fix\0\0\0\0\0\0\0", Verb::Fix),
-    (*b"verify\0\0\0\0", Verb::Verify),
-    (*b"scan\0\0\0\0\0\0", Verb::Scan),
-    (*b"read\0\0\0\0\0\0", Verb::Read),
-    (*b"demo\0\0\0\0\0\0", Verb::Demo),
-];
-
-/// The plain words of the commands. Those of one command stand in their order.
-pub static PLAIN_WORDS: [(Verb, PlainWord); 13] = [
-    (Verb::Create, IMAGE),
-    (Verb::Create, ECC),
-    (Verb::Fix, IMAGE),
-    (Verb::Fix, ECC),
-    (Verb::Verify, IMAGE),
-    (Verb::Verify, ECC),
-    (Verb::Scan, ECC_IF_ANY),
-    (Verb::Read, IMAGE),
-    (Verb::Read, ECC_IF_ANY),
-    (Verb::Demo, SEED),
-    (Verb::Demo, SECTORS),
-    (Verb::Demo, PARITY_BYTES),
-    (Verb::Demo, LOST),
-];
-
-/// The options of the commands.
-pub static OPTIONS: [(Verb, OptionRule); 10] = [
-    (Verb::Create, PARITY),
-    (Verb::Create, WORKERS),
-    (Verb::Fix, WORKERS),
-    (Verb::Fix, CUT),
-    (Verb::Scan, DRIVE),
-    (Verb::Read, DRIVE),
-    (Verb::Read, ADAPTIVE),
-    (Verb::Read, JUMP),
-    (Verb::Read, TRIES),
-    (Verb::Read, WORKERS),
-];
+// The rule of an option that may be given once.
+fn once(value: Option<Kind>, default: u64) -> OptionRule
+    ensures { result ≡ record { value = value; most = 1; default = default } }
+{
+    OptionRule {
+        value,
+        most: 1,
+        default,
+    }
+}

@@ -1,7 +1,6 @@
 //! The grammar against worked command lines.
 use crate::{Command, WordFault, drive_names, read_words};
 use std::alloc::{AllocError, Global};
-use std::process::Abort;
 use std::test::Fail;
 
 // The words of a line, parted by spaces.
@@ -24,6 +23,7 @@ fn refusals(rt: HostRuntime) -> Result<(), Fail> {
         ("creat a b", WordFault::UnknownCommand, 0),
         ("--workers", WordFault::UnknownCommand, 0),
         ("verify a b --cut", WordFault::UnknownOption, 3),
+        ("demo 1 1 8 0 --drive d", WordFault::UnknownOption, 5),
         ("fix a b c", WordFault::UnknownOption, 3),
         ("create a b --", WordFault::UnknownOption, 3),
         ("create a b --parity=8", WordFault::UnknownOption, 3),
@@ -74,51 +74,6 @@ fn refusals(rt: HostRuntime) -> Result<(), Fail> {
             }
         }
     }
-    Ok(())
-}
-
-// Adds an option to a line of each command. Only the commands of the list take it.
-fn try_option(
-    rt: &impl Abort,
-    alloc: Global,
-    option: &str,
-    having: &str,
-) -> Result<(), AllocError> {
-    for (command, line) in [
-        ("create", "create a b"),
-        ("fix", "fix a b"),
-        ("verify", "verify a b"),
-        ("scan", "scan a"),
-        ("read", "read a b"),
-        ("demo", "demo 1 1 8 0"),
-    ] {
-        let mut words = words_of(alloc, line)?;
-        let place = words.len();
-        for word in option.split_whitespace() {
-            words.push(String::from_str(alloc, word)?)?;
-        }
-        let has = having.split_whitespace().any(|name| name == command);
-        match read_words(words.as_slice()) {
-            Ok(_) => assert!(rt; has, "{line} {option}"),
-            Err(refused) => {
-                assert!(rt; !has, "{line} {option}");
-                assert_eq!(rt; refused.fault, WordFault::UnknownOption, "{line} {option}");
-                assert_eq!(rt; refused.place, place, "{line} {option}");
-            }
-        }
-    }
-    Ok(())
-}
-
-#[test]
-fn options_of_commands(rt: HostRuntime) -> Result<(), Fail> {
-    try_option(&rt, rt.alloc(), "--parity 8", "create")?;
-    try_option(&rt, rt.alloc(), "--workers 1", "create fix read")?;
-    try_option(&rt, rt.alloc(), "--cut", "fix")?;
-    try_option(&rt, rt.alloc(), "--drive d", "scan read")?;
-    try_option(&rt, rt.alloc(), "--adaptive", "read")?;
-    try_option(&rt, rt.alloc(), "--jump 1048576", "read")?;
-    try_option(&rt, rt.alloc(), "--tries 16", "read")?;
     Ok(())
 }
 

@@ -1,11 +1,10 @@
 //! The number that one word stands for.
-ghost use Rattle.std.specs.Prelude.{◌≡◌, ◌≤◌, ◌+◌, ◌-◌, ◌*◌, IsTrue, option_map};
+ghost use Rattle.std.specs.Prelude.{◌≡◌, ◌+◌, ◌-◌, ◌*◌, IsTrue, option_map};
 ghost use Rattle.std.specs.List.{list_all};
-ghost use Rattle.rs01_words.specs.Value.{is_digit, is_decimal, number_of, number_within, up_to, value_of, kind_low, kind_high, value_low, value_high, is_sound, is_sound_rule, number_or, given_number};
+ghost use Rattle.rs01_words.specs.Value.{IsOf, given_number, is_decimal, is_digit, is_sound, number_of, number_or, number_within, option_kind, up_to, value_of};
 
 use crate::fault::WordFault;
-use crate::look_up::preset_of;
-use crate::table::{Kind, OptionRule};
+use crate::table::{Kind, OptionWord, preset_of, rule_of};
 
 // Whether all bytes are decimal digits.
 fn all_digits(bytes: &[u8]) -> bool
@@ -79,11 +78,9 @@ pub fn value_of(kind: Kind, word: &str) -> Result<u64, WordFault>
 /// The number that a word of this kind stands for, and `other` for a word that stands for none.
 pub fn number_or(kind: Kind, other: u64, word: &str) -> u64
     requires sound { IsTrue (is_sound kind) }
-    requires low { kind_low kind ≤ other }
-    requires high { other ≤ kind_high kind }
+    requires other { IsOf kind other }
     ensures value { result ≡ number_or kind other word.now }
-    ensures low { kind_low kind ≤ result }
-    ensures high { result ≤ kind_high kind }
+    ensures range { IsOf kind result }
 {
     match value_of(kind, word) {
         Ok(number) => number,
@@ -92,17 +89,13 @@ pub fn number_or(kind: Kind, other: u64, word: &str) -> u64
 }
 
 /// The number of an option: that of its value where it is given, else its default.
-pub fn given_number(rule: OptionRule, word: Option<&str>) -> u64
-    requires { IsTrue (is_sound_rule rule) }
-    ensures value { result ≡ given_number rule (option_map (λ x. x.now) word.entry) }
-    ensures low { value_low rule.value ≤ result }
-    ensures high { result ≤ value_high rule.value }
+pub fn given_number(option: OptionWord, word: Option<&str>) -> u64
+    ensures value { result ≡ given_number option (option_map (λ x. x.now) word.entry) }
+    ensures range { IsOf (option_kind option) result }
 {
+    let rule = rule_of(option);
     match word {
         None => rule.default,
-        Some(word) => match rule.value {
-            None => rule.default,
-            Some(kind) => number_or(kind, rule.default, word),
-        },
+        Some(word) => number_or(rule.value.unwrap_or(Kind::Name), rule.default, word),
     }
 }

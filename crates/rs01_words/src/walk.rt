@@ -2,13 +2,12 @@
 //!
 //! No memory is taken: what is asked of a place again is found by another walk. The walk ends at the
 //! first fault, and words without one are a few dozen at most, so this costs little.
-ghost use Rattle.std.specs.Prelude.{◌≡◌, ◌+◌, ◌<◌, ◌≤◌, length, map, string_bytes, not, ◌&&◌, true, false, IfSome};
-ghost use Rattle.std.specs.Str.{bytes_eq};
+ghost use Rattle.std.specs.Prelude.{◌≡◌, ◌+◌, ◌<◌, ◌≤◌, length, false, IfSome};
 ghost use Rattle.std.specs.List.{slice_get};
-ghost use Rattle.rs01_words.specs.Line.{word_at, is_option, value_kind, plain_places, given_places, kind_at, before_at};
+ghost use Rattle.rs01_words.specs.Line.{IsKnown, given_places, is_given, is_option, is_plain, is_value, kind_at, plain_places, texts, value_kind, word_at};
 
 use crate::look_up::{option_of, plain_kind};
-use crate::table::{Kind, Verb};
+use crate::table::{Kind, Verb, rule_of};
 
 /// What the words before a place say of it.
 #[derive(Clone, Copy)]
@@ -22,7 +21,7 @@ pub struct Before {
 /// The word at a place.
 pub fn word_at(words: &[String], place: usize) -> &str
     requires { place < length words.now }
-    ensures { result.now ≡ word_at (map string_bytes words.now) place }
+    ensures { result.now ≡ word_at (texts words.now) place }
 {
     words[place].as_str()
 }
@@ -40,7 +39,7 @@ pub fn value_kind(verb: Verb, word: &str) -> Option<Kind>
     ensures { result ≡ value_kind verb word.now }
 {
     match option_of(verb, word) {
-        Some(rule) => rule.value,
+        Some(option) => rule_of(option).value,
         None => None,
     }
 }
@@ -55,28 +54,46 @@ pub fn start() -> Before
     }
 }
 
+// Whether the word after a place is the value of an option there.
+fn is_followed(verb: Verb, words: &[String], place: usize, before: Before) -> bool
+    requires inside { place < length words.now }
+    requires known { IsKnown verb (texts words.now) place before }
+    ensures { result ≡ is_value verb (texts words.now) (place + 1) }
+{
+    !before.is_value && value_kind(verb, word_at(words, place)).is_some()
+}
+
+/// Whether a plain word stands at a place.
+pub fn is_plain(verb: Verb, words: &[String], place: usize, before: Before) -> bool
+    requires inside { place < length words.now }
+    requires known { IsKnown verb (texts words.now) place before }
+    ensures { result ≡ is_plain verb (texts words.now) place }
+{
+    !before.is_value && !is_option(word_at(words, place))
+}
+
+/// Whether the option is given at a place.
+pub fn is_given(verb: Verb, words: &[String], option: &str, place: usize, before: Before) -> bool
+    requires inside { place < length words.now }
+    requires known { IsKnown verb (texts words.now) place before }
+    ensures { result ≡ is_given verb (texts words.now) option.now place }
+{
+    !before.is_value && word_at(words, place) == option
+}
+
 /// What is known of the next place.
 pub fn next(verb: Verb, words: &[String], place: usize, before: Before) -> Before
     requires inside { place < length words.now }
-    requires after_command { 0 < place }
-    requires known { before ≡ before_at verb (map string_bytes words.now) place }
-    ensures { result ≡ before_at verb (map string_bytes words.now) (place + 1) }
+    requires known { IsKnown verb (texts words.now) place before }
+    ensures { IsKnown verb (texts words.now) (place + 1) result }
 {
-    let word = word_at(words, place);
-    if before.is_value {
-        Before {
-            is_value: false,
-            plain: before.plain,
-        }
-    } else {
-        Before {
-            is_value: value_kind(verb, word).is_some(),
-            plain: if is_option(word) {
-                before.plain
-            } else {
-                before.plain + 1
-            },
-        }
+    Before {
+        is_value: is_followed(verb, words, place, before),
+        plain: if is_plain(verb, words, place, before) {
+            before.plain + 1
+        } else {
+            before.plain
+        },
     }
 }
 
@@ -85,9 +102,8 @@ pub fn next(verb: Verb, words: &[String], place: usize, before: Before) -> Befor
 #[tactic(auto, unfolding(crate::specs::Line::kind_at))]
 pub fn kind_at(verb: Verb, words: &[String], place: usize, before: Before) -> Option<Kind>
     requires inside { place < length words.now }
-    requires after_command { 0 < place }
-    requires known { before ≡ before_at verb (map string_bytes words.now) place }
-    ensures { result ≡ kind_at verb (map string_bytes words.now) place }
+    requires known { IsKnown verb (texts words.now) place before }
+    ensures { result ≡ kind_at verb (texts words.now) place }
 {
     if before.is_value {
         value_kind(verb, word_at(words, place - 1))
@@ -98,41 +114,22 @@ pub fn kind_at(verb: Verb, words: &[String], place: usize, before: Before) -> Op
     }
 }
 
-/// Whether a plain word stands at a place.
-pub fn is_plain(words: &[String], place: usize, before: Before) -> bool
-    requires { place < length words.now }
-    ensures { result
-        ≡ (not before.is_value && not (is_option (word_at (map string_bytes words.now) place))) }
-{
-    !before.is_value && !is_option(word_at(words, place))
-}
-
-/// Whether the option is given at a place.
-pub fn is_given(words: &[String], option: &[u8], place: usize, before: Before) -> bool
-    requires { place < length words.now }
-    ensures { result
-        ≡ (not before.is_value && bytes_eq (word_at (map string_bytes words.now) place) option.now) }
-{
-    !before.is_value && word_at(words, place).as_bytes() == option
-}
-
 /// The place below `end` at which an option is given for the time `count`, counted from 0.
 pub fn given_place(
     verb: Verb,
     words: &[String],
-    option: &[u8],
+    option: &str,
     end: usize,
     count: usize,
 ) -> Option<usize>
     requires { end ≤ length words.now }
-    ensures value { result
-        ≡ slice_get (given_places verb (map string_bytes words.now) option.now end) count }
+    ensures value { result ≡ slice_get (given_places verb (texts words.now) option.now end) count }
     ensures within { IfSome result (λ place. place < end) }
 {
     let mut seen: usize = 0;
     let mut before = start();
     for place in 1..end {
-        if is_given(words, option, place, before) {
+        if is_given(verb, words, option, place, before) {
             if seen == count {
                 return Some(place);
             }
@@ -146,12 +143,12 @@ pub fn given_place(
 /// The place of the plain word with this number, counted from 0.
 pub fn plain_place(verb: Verb, words: &[String], number: usize) -> Option<usize>
     ensures value { result
-        ≡ slice_get (plain_places verb (map string_bytes words.now) (length words.now)) number }
+        ≡ slice_get (plain_places verb (texts words.now) (length words.now)) number }
     ensures within { IfSome result (λ place. place < length words.now) }
 {
     let mut before = start();
     for place in 1..words.len() {
-        if before.plain == number && is_plain(words, place, before) {
+        if before.plain == number && is_plain(verb, words, place, before) {
             return Some(place);
         }
         before = next(verb, words, place, before);

@@ -1,9 +1,9 @@
-use Rattle.std.proofs.Common.{◌≡◌, ◌≤◌, length, map, string_bytes}
-use Rattle.rs01_words.specs.Line.{plain_places, before_at}
+use Rattle.std.proofs.Common.{◌≤◌, length}
+use Rattle.rs01_words.specs.Line.{plain_places, texts, IsKnown}
 use Rattle.rs01_words.proofs.walk.plain_place.Given as goal
 
 abbrev pub invariant-loop-place : goal.invariant-loop-place
 invariant-loop-place l = record {
-  known : l.before ≡ before_at l.verb (map string_bytes l.words) l.place;
-  passed : length (plain_places l.verb (map string_bytes l.words) l.place) ≤ l.number;
+  known : IsKnown l.verb (texts l.words) l.place l.before;
+  passed : length (plain_places l.verb (texts l.words) l.place) ≤ l.number;
 }
