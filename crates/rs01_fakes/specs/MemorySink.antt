@@ -1,6 +1,13 @@
--- What a sink in memory holds. Puts are numbered from 0.
-use Rattle.std.specs.Prelude.{ℕ, ◌≡◌, List, Option, vec_capacity}
+-- What a sink in memory holds.
+use Rattle.std.specs.Prelude.{ℕ, ◌+◌, ◌≡◌, ◌<◌, ◌⊎◌, Bool, true, IsTrue, List, length, vec_capacity}
+use Rattle.rs01_outside.specs.SinkState.{SinkState}
+use Rattle.rs01_fakes.specs.Marks.{after, faults_after, is_marked}
+use Rattle.rs01_fakes.specs.declared.marks.Mark.{Mark}
 use Rattle.rs01_fakes.specs.declared.memory_sink.MemorySink.{MemorySink}
+
+-- what it tells
+abbrev pub sink_state : MemorySink → SinkState
+sink_state sink = record { tells = true; taken = sink.bytes.items; faults = sink.faults }
 
 -- the bytes that it took
 abbrev pub taken_of : MemorySink → List ℕ
@@ -10,21 +17,15 @@ taken_of sink = sink.bytes.items
 abbrev pub room_of : MemorySink → ℕ
 room_of sink = vec_capacity sink.bytes
 
--- how many puts were made, up to the last value of a u64: the number of the next one
-abbrev pub puts_of : MemorySink → ℕ
+-- which of its puts is marked to fail
+abbrev pub puts_of : MemorySink → Mark
 puts_of sink = sink.puts
 
--- the number of the put that is marked to fail
-abbrev pub failing_put_of : MemorySink → Option ℕ
-failing_put_of sink = sink.failing_put
-
--- how many puts failed
-abbrev pub sink_faults_of : MemorySink → ℕ
-sink_faults_of sink = sink.faults
-
--- only the mark may differ
-pub record SameButMark (old new : MemorySink) : Type 0 where
-  pub taken : taken_of new ≡ taken_of old
-  pub room : room_of new ≡ room_of old
-  pub puts : puts_of new ≡ puts_of old
-  pub faults : sink_faults_of new ≡ sink_faults_of old
+-- a put counts itself, takes nothing and counts a fault where it failed, and fails where it is marked and else only where it
+-- has to grow
+pub record PutsOrNot (bytes : List ℕ) (old new : MemorySink) (failed : Bool) : Type 0 where
+  pub none : IsTrue failed → taken_of new ≡ taken_of old
+  pub faults : new.faults ≡ faults_after old.faults failed
+  pub puts : puts_of new ≡ after (puts_of old)
+  pub marked : IsTrue (is_marked (puts_of old)) → IsTrue failed
+  pub full : IsTrue failed → IsTrue (is_marked (puts_of old)) ⊎ (room_of old < length (taken_of old) + length bytes)

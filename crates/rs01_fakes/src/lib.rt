@@ -1,15 +1,20 @@
 //! Objects in memory that meet the traits of the outside and tell all they hold.
 //!
-//! Calls of them can be marked to fail, so that each fault of an outside can be tried in turn.
+//! Calls of them can be marked to fail, and a drive's answers can be scripted, so that each fault
+//! of an outside can be tried in turn.
 #![tactic(auto)]
 
 mod marks;
 mod memory_desk;
 mod memory_sink;
+mod script_drive;
+mod scripts;
 mod stored;
 
 pub use memory_desk::MemoryDesk;
 pub use memory_sink::MemorySink;
+pub use script_drive::ScriptDrive;
+pub use scripts::Script;
 
 #[cfg(test)]
 mod tests;

@@ -1,19 +1,37 @@
-//! Which calls of a desk in memory are marked to fail.
-ghost use Rattle.std.specs.Prelude.{◌≡◌};
-ghost use Rattle.rs01_fakes.specs.Marks.{is_at};
+//! Which calls of an object in memory are marked to fail.
+ghost use Rattle.std.specs.Prelude.{◌≡◌, ◌≤◌};
+ghost use Rattle.rs01_fakes.specs.Marks.{is_at, one_more};
 
-// Numbers of calls and of writes stand still at the last value of a u64.
+use rs01_outside::Failed;
+
+// The number of the next call, and that of the call that is to fail. Numbers stand still at the
+// last value of a u64.
+#[derive(Clone, Copy)]
+pub(crate) struct Mark {
+    calls: u64,
+    failing: Option<u64>,
+}
+
+// The marks of a desk: one over all calls, and one over the writes.
 #[derive(Clone, Copy)]
 pub(crate) struct Marks {
-    calls: u64,
-    writes: u64,
-    failing_call: Option<u64>,
-    failing_write: Option<u64>,
-    kept: Option<u64>,
+    pub(crate) calls: Mark,
+    pub(crate) writes: Mark,
+    // How many of its bytes a marked write puts in place.
+    pub(crate) kept: Option<u64>,
+}
+
+// Counts a call that failed.
+pub(crate) fn fail(faults: &mut u64) -> Failed
+    ensures counted { faults.new ≡ one_more faults.old }
+    ensures later { faults.old ≤ faults.new }
+{
+    *faults = faults.saturating_add(1);
+    Failed
 }
 
 // Whether a mark is at this number.
-pub(crate) fn is_at(mark: Option<u64>, number: u64) -> bool
+fn is_at(mark: Option<u64>, number: u64) -> bool
     ensures { result ≡ is_at mark number }
 {
     match mark {
@@ -22,43 +40,46 @@ pub(crate) fn is_at(mark: Option<u64>, number: u64) -> bool
     }
 }
 
+impl Mark {
+    ghost use Rattle.rs01_fakes.specs.Marks.{after, is_marked, mark_at, no_mark};
+
+    pub(crate) fn new() -> Mark
+        ensures { result ≡ no_mark }
+    {
+        Mark {
+            calls: 0,
+            failing: None,
+        }
+    }
+
+    pub(crate) fn set(&mut self, call: u64)
+        ensures { self.new ≡ mark_at self.old call }
+    {
+        self.failing = Some(call);
+    }
+
+    // Counts a call, and says whether it is marked.
+    pub(crate) fn next(&mut self) -> bool
+        ensures marked { result ≡ is_marked self.old }
+        ensures counted { self.new ≡ after self.old }
+    {
+        let marked = is_at(self.failing, self.calls);
+        self.calls = self.calls.saturating_add(1);
+        marked
+    }
+}
+
 impl Marks {
-    ghost use Rattle.rs01_fakes.specs.Marks.{after_call, after_write, call_is_marked, kept_of, mark_call, mark_kept, mark_write, unmarked, write_is_marked};
+    ghost use Rattle.rs01_fakes.specs.Marks.{after_call, after_write, call_is_marked, unmarked, write_is_marked};
 
     pub(crate) fn new() -> Marks
         ensures { result ≡ unmarked }
     {
         Marks {
-            calls: 0,
-            writes: 0,
-            failing_call: None,
-            failing_write: None,
+            calls: Mark::new(),
+            writes: Mark::new(),
             kept: None,
         }
-    }
-
-    pub(crate) fn mark_call(&mut self, call: u64)
-        ensures { self.new ≡ mark_call self.old call }
-    {
-        self.failing_call = Some(call);
-    }
-
-    pub(crate) fn mark_write(&mut self, write: u64)
-        ensures { self.new ≡ mark_write self.old write }
-    {
-        self.failing_write = Some(write);
-    }
-
-    pub(crate) fn mark_kept(&mut self, kept: Option<u64>)
-        ensures { self.new ≡ mark_kept self.old kept }
-    {
-        self.kept = kept;
-    }
-
-    pub(crate) fn kept(&self) -> Option<u64>
-        ensures { result ≡ kept_of self.now }
-    {
-        self.kept
     }
 
     // Counts a call that is no write, and says whether it is marked.
@@ -66,9 +87,7 @@ impl Marks {
         ensures marked { result ≡ call_is_marked self.old }
         ensures counted { self.new ≡ after_call self.old }
     {
-        let marked = is_at(self.failing_call, self.calls);
-        self.calls = self.calls.saturating_add(1);
-        marked
+        self.calls.next()
     }
 
     // Counts a write, and says whether it is marked.
@@ -76,9 +95,8 @@ impl Marks {
         ensures marked { result ≡ write_is_marked self.old }
         ensures counted { self.new ≡ after_write self.old }
     {
-        let marked = is_at(self.failing_call, self.calls) || is_at(self.failing_write, self.writes);
-        self.calls = self.calls.saturating_add(1);
-        self.writes = self.writes.saturating_add(1);
-        marked
+        let call = self.calls.next();
+        let write = self.writes.next();
+        call || write
     }
 }

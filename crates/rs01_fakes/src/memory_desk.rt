@@ -1,12 +1,11 @@
 //! Named files in memory.
-ghost use Rattle.std.specs.Prelude.{◌≡◌, ◌≤◌, IfOk, IsErr, IsOk, IsSome, IsTrue, None, OnErr, OnOk, is_err, length, not, take, true, []};
+ghost use Rattle.std.specs.Prelude.{◌≡◌, ◌≤◌, IfOk, IsOk, IsSome, IsTrue, None, OnErr, OnOk, is_err, length, not, take, []};
 ghost use Rattle.std.specs.Option.{option_copied};
-ghost use Rattle.rs01_outside.specs.Causes.{HasCause};
-ghost use Rattle.rs01_outside.specs.Files.{Becomes, ReadsAt, Shortens, SizeIs, WritesAt};
-ghost use Rattle.rs01_fakes.specs.Marks.{after_call, after_write, call_is_marked, faults_after, kept_of, mark_call, mark_kept, mark_write, one_more, unmarked, write_is_marked};
-ghost use Rattle.rs01_fakes.specs.Stored.{IsWithin, KeepsPrefix, files_in};
+ghost use Rattle.rs01_outside.specs.Files.{Becomes, ReadsAt, Shortens, SizeIs};
+ghost use Rattle.rs01_fakes.specs.Marks.{call_is_marked, unmarked};
+ghost use Rattle.rs01_fakes.specs.Stored.{DoneOrNot, KeepsPrefix, files_in};
 
-use crate::marks::Marks;
+use crate::marks::{self, Marks};
 use crate::stored::{self, StoredFiles};
 use rs01_outside::{Desk, Failed};
 use std::alloc::{AllocError, Global};
@@ -26,14 +25,14 @@ pub struct MemoryDesk {
 }
 
 impl MemoryDesk {
-    ghost use Rattle.rs01_fakes.specs.Memory.{SameButFiles, SameButMarks, files_of, marks_of, read_faults_of, write_faults_of};
+    ghost use Rattle.rs01_fakes.specs.Memory.{desk_state, files_of, mark_call, mark_kept, mark_write, marks_of, with_files};
 
     /// A desk with no file and no mark. It keeps the allocator for later growths.
     pub fn new(alloc: Global) -> MemoryDesk
         ensures empty { (name : _) → files_of result name ≡ None }
         ensures marks { marks_of result ≡ unmarked }
-        ensures read_faults { read_faults_of result ≡ 0 }
-        ensures write_faults { write_faults_of result ≡ 0 }
+        ensures read_faults { (desk_state result).read_faults ≡ 0 }
+        ensures write_faults { (desk_state result).write_faults ≡ 0 }
     {
         MemoryDesk {
             alloc,
@@ -47,9 +46,10 @@ impl MemoryDesk {
     /// Puts a file under a name, in the place of one that may be there. It isn't counted as a call
     /// of the desk. Without memory nothing changes.
     pub fn put_file(&mut self, alloc: Global, name: &str, bytes: &[u8]) -> Result<(), AllocError>
-        ensures ok { OnOk result (Becomes name.now bytes.now (files_of self.old) (files_of self.new)) }
-        ensures err { OnErr result (files_of self.new ≡ files_of self.old) }
-        ensures rest { SameButFiles self.old self.new }
+        ensures put { DoneOrNot (Becomes name.now bytes.now)
+            (files_of self.old) (files_of self.new) result }
+        ensures marks { marks_of self.new ≡ marks_of self.old }
+        ensures rest { desk_state self.new ≡ with_files (desk_state self.old) (files_of self.new) }
     {
         stored::store(alloc, &mut self.files, name, bytes)?;
         Ok(())
@@ -69,18 +69,18 @@ impl MemoryDesk {
     /// `write_at`, `make` and `cut`. One number is marked at a time.
     pub fn fail_call(&mut self, call: u64)
         ensures marks { marks_of self.new ≡ mark_call (marks_of self.old) call }
-        ensures rest { SameButMarks self.old self.new }
+        ensures rest { desk_state self.new ≡ desk_state self.old }
     {
-        self.marks.mark_call(call);
+        self.marks.calls.set(call);
     }
 
     /// Makes the `write_at` with this number fail, counted from 0 over the calls of `write_at`
     /// alone. One number is marked at a time.
     pub fn fail_write(&mut self, write: u64)
         ensures marks { marks_of self.new ≡ mark_write (marks_of self.old) write }
-        ensures rest { SameButMarks self.old self.new }
+        ensures rest { desk_state self.new ≡ desk_state self.old }
     {
-        self.marks.mark_write(write);
+        self.marks.writes.set(write);
     }
 
     /// How many of its bytes a marked `write_at` puts in place before it fails. With `None`, as at
@@ -88,27 +88,9 @@ impl MemoryDesk {
     /// before its place, and puts no byte.
     pub fn keep_prefix(&mut self, bytes: Option<u64>)
         ensures marks { marks_of self.new ≡ mark_kept (marks_of self.old) bytes }
-        ensures rest { SameButMarks self.old self.new }
+        ensures rest { desk_state self.new ≡ desk_state self.old }
     {
-        self.marks.mark_kept(bytes);
-    }
-
-    // Counts a reading call that failed.
-    fn failed_read(&mut self) -> Failed
-        ensures counted { self.new ≡ record self.old { read_faults = one_more self.old.read_faults } }
-        ensures later { self.old.read_faults ≤ self.new.read_faults }
-    {
-        self.read_faults = self.read_faults.saturating_add(1);
-        Failed
-    }
-
-    // Counts a writing call that failed.
-    fn failed_write(&mut self) -> Failed
-        ensures counted { self.new ≡ record self.old { write_faults = one_more self.old.write_faults } }
-        ensures later { self.old.write_faults ≤ self.new.write_faults }
-    {
-        self.write_faults = self.write_faults.saturating_add(1);
-        Failed
+        self.marks.kept = bytes;
     }
 }
 
@@ -131,7 +113,7 @@ fn write_kept(
     at: u64,
     bytes: &[u8],
 )
-    ensures { KeepsPrefix (files_in files.old) (files_in files.new) kept name.now at bytes.now }
+    ensures { KeepsPrefix kept name.now at bytes.now (files_in files.old) (files_in files.new) }
 {
     match kept {
         Some(kept) => match stored::write(alloc, files, name, at, prefix(bytes, kept)) {
@@ -143,104 +125,70 @@ fn write_kept(
 }
 
 impl Desk for MemoryDesk {
-    ghost use Rattle.rs01_fakes.specs.Memory.{files_of, marks_of, read_faults_of, write_faults_of};
+    ghost use Rattle.rs01_fakes.specs.Memory.{CallChanges, Reads, WriteChanges, WritesAsMarked, desk_state, files_of, marks_of};
 
-    ghost tells = { λ desk. true };
-
-    ghost files = { files_of };
-
-    ghost read_faults = { read_faults_of };
-
-    ghost write_faults = { write_faults_of };
+    ghost state = { desk_state };
 
     fn size(&mut self, name: &str) -> Result<Option<u64>, Failed>
-        ensures unchanged { files_of self.new ≡ files_of self.old }
+        ensures reads { Reads self.old self.new (is_err result) }
         ensures size { IfOk result (SizeIs (files_of self.old) name.now) }
-        ensures cause { HasCause (read_faults_of self.old) (read_faults_of self.new) result }
-        ensures count { read_faults_of self.new ≡ faults_after (read_faults_of self.old) result }
-        ensures writes { write_faults_of self.new ≡ write_faults_of self.old }
-        ensures fails { is_err result ≡ call_is_marked (marks_of self.old) }
-        ensures marks { marks_of self.new ≡ after_call (marks_of self.old) }
     {
         if self.marks.call() {
-            return Err(self.failed_read());
+            return Err(marks::fail(&mut self.read_faults));
         }
         Ok(stored::size(&self.files, name))
     }
 
     fn read_at(&mut self, name: &str, at: u64, into: &mut [u8]) -> Result<usize, Failed>
-        ensures unchanged { files_of self.new ≡ files_of self.old }
+        ensures reads { Reads self.old self.new (is_err result) }
         ensures bound { IfOk result (λ count. count ≤ length into.old) }
         ensures bytes { IfOk result (ReadsAt (files_of self.old) name.now at into.new) }
-        ensures cause { HasCause (read_faults_of self.old) (read_faults_of self.new) result }
-        ensures count { read_faults_of self.new ≡ faults_after (read_faults_of self.old) result }
-        ensures writes { write_faults_of self.new ≡ write_faults_of self.old }
-        ensures fails { is_err result ≡ call_is_marked (marks_of self.old) }
-        ensures marks { marks_of self.new ≡ after_call (marks_of self.old) }
     {
         if self.marks.call() {
-            return Err(self.failed_read());
+            return Err(marks::fail(&mut self.read_faults));
         }
         Ok(stored::read(&self.files, name, at, into))
     }
 
     fn write_at(&mut self, name: &str, at: u64, bytes: &[u8]) -> Result<(), Failed>
-        ensures written { WritesAt (files_of self.old) (files_of self.new) name.now at bytes.now result }
-        ensures cause { HasCause (write_faults_of self.old) (write_faults_of self.new) result }
-        ensures count { write_faults_of self.new ≡ faults_after (write_faults_of self.old) result }
-        ensures reads { read_faults_of self.new ≡ read_faults_of self.old }
-        ensures marked { IsTrue (write_is_marked (marks_of self.old)) → IsErr result }
-        ensures within { IsTrue (not (write_is_marked (marks_of self.old)))
-            → IsWithin (files_of self.old) name.now at (length bytes.now) → IsOk result }
-        ensures kept { IsTrue (write_is_marked (marks_of self.old))
-            → KeepsPrefix (files_of self.old) (files_of self.new) (kept_of (marks_of self.old))
-            name.now at bytes.now }
-        ensures full { IsTrue (not (write_is_marked (marks_of self.old)))
-            → OnErr result (files_of self.new ≡ files_of self.old) }
-        ensures marks { marks_of self.new ≡ after_write (marks_of self.old) }
+        ensures changes { WriteChanges name.now self.old self.new (is_err result) }
+        ensures written { WritesAsMarked name.now at bytes.now self.old self.new result }
     {
-        let kept = self.marks.kept();
+        let kept = self.marks.kept;
         if self.marks.write() {
             write_kept(self.alloc, &mut self.files, kept, name, at, bytes);
-            return Err(self.failed_write());
+            return Err(marks::fail(&mut self.write_faults));
         }
         match stored::write(self.alloc, &mut self.files, name, at, bytes) {
             Ok(()) => Ok(()),
-            Err(_) => Err(self.failed_write()),
+            Err(_) => Err(marks::fail(&mut self.write_faults)),
         }
     }
 
     fn make(&mut self, name: &str) -> Result<(), Failed>
-        ensures made { OnOk result (Becomes name.now [] (files_of self.old) (files_of self.new)) }
-        ensures failed { OnErr result (files_of self.new ≡ files_of self.old) }
-        ensures cause { HasCause (write_faults_of self.old) (write_faults_of self.new) result }
-        ensures count { write_faults_of self.new ≡ faults_after (write_faults_of self.old) result }
-        ensures reads { read_faults_of self.new ≡ read_faults_of self.old }
-        ensures marked { IsTrue (call_is_marked (marks_of self.old)) → IsErr result }
+        ensures changes { CallChanges name.now self.old self.new (is_err result) }
+        ensures made { DoneOrNot (Becomes name.now [])
+            (files_of self.old) (files_of self.new) result }
         ensures there { IsTrue (not (call_is_marked (marks_of self.old)))
             → IsSome (files_of self.old name.now) → IsOk result }
-        ensures marks { marks_of self.new ≡ after_call (marks_of self.old) }
     {
         if self.marks.call() {
-            return Err(self.failed_write());
+            return Err(marks::fail(&mut self.write_faults));
         }
         match stored::make(self.alloc, &mut self.files, name) {
             Ok(()) => Ok(()),
-            Err(_) => Err(self.failed_write()),
+            Err(_) => Err(marks::fail(&mut self.write_faults)),
         }
     }
 
     fn cut(&mut self, name: &str, len: u64) -> Result<(), Failed>
-        ensures cut { OnOk result (Shortens (files_of self.old) (files_of self.new) name.now len) }
-        ensures failed { OnErr result (files_of self.new ≡ files_of self.old) }
-        ensures cause { HasCause (write_faults_of self.old) (write_faults_of self.new) result }
-        ensures count { write_faults_of self.new ≡ faults_after (write_faults_of self.old) result }
-        ensures reads { read_faults_of self.new ≡ read_faults_of self.old }
+        ensures changes { CallChanges name.now self.old self.new (is_err result) }
+        ensures cut { DoneOrNot (λ old new. Shortens old new name.now len)
+            (files_of self.old) (files_of self.new) result }
         ensures fails { is_err result ≡ call_is_marked (marks_of self.old) }
-        ensures marks { marks_of self.new ≡ after_call (marks_of self.old) }
     {
         if self.marks.call() {
-            return Err(self.failed_write());
+            return Err(marks::fail(&mut self.write_faults));
         }
         stored::cut(&mut self.files, name, len);
         Ok(())

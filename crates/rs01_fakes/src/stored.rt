@@ -1,7 +1,8 @@
 //! Files that a map holds by their names.
 ghost use Rattle.std.specs.Prelude.{◌≡◌, ◌+◌, ◌≤◌, [], IsOk, IsSome, OnErr, OnOk, length};
-ghost use Rattle.rs01_outside.specs.Files.{Becomes, ReadsAt, ReadsBytes, Shortens, SizeIs, Writes, over, padded, put_at};
-ghost use Rattle.rs01_fakes.specs.Stored.{IsWithin, files_in};
+ghost use Rattle.rs01_lists.specs.Bytes.{padded};
+ghost use Rattle.rs01_outside.specs.Files.{Becomes, ReadsAt, ReadsBytes, Shortens, SizeIs, over, put_at};
+ghost use Rattle.rs01_fakes.specs.Stored.{DoneOrNot, WritesOrNot, files_in};
 
 use std::alloc::{AllocError, Global};
 use std::collections::BTreeMap;
@@ -52,8 +53,9 @@ fn place(bytes: &mut [u8], from: usize, new: &[u8])
 }
 
 // Makes a file at least so long, with zeros at its end.
+#[tactic(auto, unfolding(rs01_lists::specs::Bytes::padded, rs01_lists::specs::Bytes::zeros))]
 fn lengthen(bytes: &mut Vec<u8>, end: usize) -> Result<(), AllocError>
-    ensures ok { OnOk result (bytes.new.items ≡ padded bytes.old.items end) }
+    ensures ok { OnOk result (bytes.new.items ≡ padded end bytes.old.items) }
     ensures err { OnErr result (bytes.new.items ≡ bytes.old.items) }
     ensures long_enough { end ≤ length bytes.old.items → IsOk result }
 {
@@ -84,8 +86,8 @@ pub(crate) fn store(
     name: &str,
     bytes: &[u8],
 ) -> Result<(), AllocError>
-    ensures ok { OnOk result (Becomes name.now bytes.now (files_in files.old) (files_in files.new)) }
-    ensures err { OnErr result (files_in files.new ≡ files_in files.old) }
+    ensures { DoneOrNot (Becomes name.now bytes.now)
+        (files_in files.old) (files_in files.new) result }
 {
     let key = String::from_str(alloc, name)?;
     let file = Vec::from_slice(alloc, bytes)?;
@@ -101,9 +103,7 @@ pub(crate) fn write(
     at: u64,
     bytes: &[u8],
 ) -> Result<(), AllocError>
-    ensures ok { OnOk result (Writes (files_in files.old) (files_in files.new) name.now at bytes.now) }
-    ensures err { OnErr result (files_in files.new ≡ files_in files.old) }
-    ensures within { IsWithin (files_in files.old) name.now at (length bytes.now) → IsOk result }
+    ensures { WritesOrNot name.now at bytes.now (files_in files.old) (files_in files.new) result }
 {
     match files.get_mut(name) {
         Some(file) => match write_bytes(file, at, bytes) {
@@ -122,8 +122,8 @@ pub(crate) fn write(
 
 // Leaves the empty file under a name. One that is there takes no memory.
 pub(crate) fn make(alloc: Global, files: &mut StoredFiles, name: &str) -> Result<(), AllocError>
-    ensures ok { OnOk result (Becomes name.now [] (files_in files.old) (files_in files.new)) }
-    ensures err { OnErr result (files_in files.new ≡ files_in files.old) }
+    ensures made { DoneOrNot (Becomes name.now [])
+        (files_in files.old) (files_in files.new) result }
     ensures there { IsSome (files_in files.old name.now) → IsOk result }
 {
     match files.get_mut(name) {

@@ -1,6 +1,7 @@
-use crate::{MemoryDesk, MemorySink};
-use rs01_outside::{Desk, Failed, Sink};
-use std::alloc::AllocError;
+use crate::{MemoryDesk, MemorySink, Script, ScriptDrive};
+use rs01_layers::Bytes;
+use rs01_outside::{Desk, Drive, Failed, Sink};
+use std::alloc::{AllocError, Global};
 
 // Whether the file under a name is this one.
 fn holds(desk: &MemoryDesk, name: &str, want: &[u8]) -> bool {
@@ -122,4 +123,138 @@ fn a_sink_takes_what_is_put(rt: HostRuntime) {
     assert!(rt; sink.put(b"cd") == Err(Failed) && sink.faults() == 1);
     assert!(rt; sink.put(b"ef") == Ok(()) && sink.faults() == 1);
     assert!(rt; sink.bytes() == b"abef".as_slice());
+}
+
+// So many bytes, all the same, as an answer.
+fn same_bytes(alloc: Global, byte: u8, len: usize) -> Result<Script, AllocError> {
+    Ok(Script::Block(Bytes::of(vec![in alloc; byte; len]?)))
+}
+
+// The first, second and last byte that a read gives, `None` for a fault.
+fn answer(drive: &mut ScriptDrive, sector: u32) -> Option<[u8; 3]> {
+    let mut block = [b'-'; 2048];
+    match drive.read(sector, &mut block) {
+        Ok(()) => Some([block[0], block[1], block[2047]]),
+        Err(Failed) => None,
+    }
+}
+
+#[test]
+fn a_new_drive_answers_with_zeros(rt: HostRuntime) -> Result<(), AllocError> {
+    let mut drive = ScriptDrive::new(rt.alloc(), 3)?;
+    assert!(rt; drive.sectors() == Ok(3));
+    assert!(rt; drive.asked_at(0) == None);
+    for (sector, want) in [
+        (0u32, Some([0u8; 3])),
+        (2, Some([0; 3])),
+        (3, None),
+        (u32::MAX, None),
+    ] {
+        assert!(rt; answer(&mut drive, sector) == want, "sector {sector}");
+    }
+    for (ask, want) in [
+        (0u64, Some(0u32)),
+        (1, Some(2)),
+        (2, Some(3)),
+        (3, Some(u32::MAX)),
+        (4, None),
+        (u64::MAX, None),
+    ] {
+        assert!(rt; drive.asked_at(ask) == want, "ask {ask}");
+    }
+    assert!(rt; drive.faults() == 2);
+    Ok(())
+}
+
+#[test]
+fn an_image_is_loaded_by_blocks(rt: HostRuntime) -> Result<(), AllocError> {
+    let alloc = rt.alloc();
+    let mut image = vec![in alloc; b'a'; 2 * 2048 + 1]?;
+    image[2048] = b'b';
+    let mut drive = ScriptDrive::new(alloc, 4)?;
+    drive.steady(alloc, 0, same_bytes(alloc, b'y', 2048)?)?;
+    drive.steady(alloc, 3, same_bytes(alloc, b'z', 2048)?)?;
+    drive.load(alloc, &image)?;
+    let mut smaller = ScriptDrive::new(alloc, 2)?;
+    smaller.load(alloc, &image)?;
+    for (sector, want, want_smaller) in [
+        (0u32, Some(*b"aaa"), Some(*b"aaa")),
+        (1, Some(*b"baa"), Some(*b"baa")),
+        (2, Some(*b"a\0\0"), None),
+        (3, Some(*b"zzz"), None),
+        (4, None, None),
+    ] {
+        assert!(rt; answer(&mut drive, sector) == want, "sector {sector}");
+        assert!(rt;
+            answer(&mut smaller, sector) == want_smaller,
+            "sector {sector} of two"
+        );
+    }
+    Ok(())
+}
+
+#[test]
+fn coming_answers_are_used_up_in_order(rt: HostRuntime) -> Result<(), AllocError> {
+    let alloc = rt.alloc();
+    let mut drive = ScriptDrive::new(alloc, 2)?;
+    drive.coming(alloc, 1, &[same_bytes(alloc, b'a', 2048)?, Script::Fault])?;
+    drive.coming(alloc, 0, &[same_bytes(alloc, b'b', 2048)?])?;
+    drive.coming(
+        alloc,
+        1,
+        &[
+            same_bytes(alloc, b'c', 2048)?,
+            same_bytes(alloc, b'd', 2047)?,
+        ],
+    )?;
+    drive.steady(alloc, 0, Script::Fault)?;
+    drive.steady(alloc, 1, same_bytes(alloc, b'e', 2048)?)?;
+    for (sector, want, faults) in [
+        (1u32, Some(*b"aaa"), 0u64),
+        (1, None, 1),
+        (0, Some(*b"bbb"), 1),
+        (2, None, 2),
+        (1, Some(*b"ccc"), 2),
+        (0, None, 3),
+        (1, None, 4),
+        (1, Some(*b"eee"), 4),
+        (1, Some(*b"eee"), 4),
+    ] {
+        assert!(rt;
+            answer(&mut drive, sector) == want && drive.faults() == faults,
+            "sector {sector}, then {faults} faults"
+        );
+    }
+    assert!(rt; drive.asked_at(2) == Some(0) && drive.asked_at(9) == None);
+    Ok(())
+}
+
+#[test]
+fn a_drive_without_its_number_still_reads(rt: HostRuntime) -> Result<(), AllocError> {
+    let mut drive = ScriptDrive::new(rt.alloc(), 1)?;
+    assert!(rt; drive.sectors() == Ok(1));
+    drive.fail_sectors();
+    assert!(rt; drive.sectors() == Err(Failed) && drive.faults() == 1);
+    assert!(rt; answer(&mut drive, 0) == Some([0; 3]));
+    assert!(rt; drive.sectors() == Err(Failed) && drive.faults() == 2);
+    Ok(())
+}
+
+#[test]
+fn each_ask_is_recorded_up_to_the_room_and_past_it(rt: HostRuntime) -> Result<(), AllocError> {
+    let mut drive = ScriptDrive::new(rt.alloc(), 1)?;
+    // Two reads of each sector, and 16 more.
+    for ask in 0..18u64 {
+        assert!(rt; drive.asked_at(ask) == None, "before ask {ask}");
+        let wanted = if ask % 2 == 0 { Some([0; 3]) } else { None };
+        assert!(rt; answer(&mut drive, (ask % 2) as u32) == wanted, "ask {ask}");
+        assert!(rt;
+            drive.asked_at(ask) == Some((ask % 2) as u32),
+            "after ask {ask}"
+        );
+    }
+    assert!(rt; drive.faults() == 9 && drive.asked_at(18) == None);
+    assert!(rt; answer(&mut drive, 0) == Some([0; 3]));
+    assert!(rt; drive.asked_at(18) == Some(0) && drive.asked_at(17) == Some(1));
+    Ok(())
 }

@@ -1,33 +1,42 @@
 //! Files of the system as a desk.
-ghost use Rattle.std.specs.Prelude.{◌≡◌, false, None};
+ghost use Rattle.std.specs.Prelude.{◌≡◌};
+ghost use Rattle.rs01_host.specs.Untold.{untold_desk};
 
 use crate::fault_count::FaultCount;
 use crate::system::System;
 use rs01_outside::{Desk, Failed};
+use std::alloc::AllocError;
+use std::fs::File;
 use std::rt::Files;
 
 /// Named files of the system, which tell nothing of their contents.
 ///
-/// `size` answers `None`, and `read_at` and `cut` do nothing, only where the system says that there
-/// is no such file. Each other failure is a fault: a folder, a pipe, a path through a plain file, a
-/// name that may not be opened, a write that takes nothing.
+/// A file stays open from the first call on its name until the desk is dropped, and all later calls
+/// on the name are on that file. `size` answers `None`, and `read_at` and `cut` do nothing, only
+/// where the system says that there is no such file. Each other failure is a fault: a folder, a
+/// pipe, a character device, a path through a plain file, a name that may not be opened, a write
+/// that takes nothing.
 ///
-/// A name that would be written, made or cut is looked up first, and where it stands for a file that
-/// this desk was asked for by a different name, the call is a fault and changes nothing. Each name
-/// that is asked for is kept, and one that finds no memory is a fault of that call.
+/// A file that is to be changed is opened anew under its name, once, and locked. It is a fault, and
+/// nothing changes, where it is another file by then, is open under a second name, or is locked by
+/// another open of it, as that of another run. Where the file system knows no locks, there is none.
+///
+/// Each `size`, each change and each read that takes the last byte looks whether the name still
+/// stands for that file. It is a fault where it doesn't, where a file is shorter than this desk
+/// knows it to be, where it isn't empty once it was made, as a device never is, and where a write
+/// would make it longer than this process may. So is `make` of a file that isn't empty and doesn't
+/// begin as an error correction file, where another open file does: the names are likely swapped.
 #[derive(Drop)]
-pub struct FileDesk<R: Files + AllocGlobal + Drop> {
+pub struct FileDesk<R: Files<File = File> + AllocGlobal + Drop> {
     system: System<R>,
     reads: FaultCount,
     writes: FaultCount,
 }
 
-impl<R: Files + AllocGlobal + Drop> FileDesk<R> {
+impl<R: Files<File = File> + AllocGlobal + Drop> FileDesk<R> {
     /// The files that this runtime value reaches. It takes no memory.
     pub fn new(files: R) -> FileDesk<R>
-        ensures tells { ⟦<FileDesk<R> as Desk>⟧.tells result ≡ false }
-        ensures read_faults { ⟦<FileDesk<R> as Desk>⟧.read_faults result ≡ 0 }
-        ensures write_faults { ⟦<FileDesk<R> as Desk>⟧.write_faults result ≡ 0 }
+        ensures { ⟦<FileDesk<R> as Desk>⟧.state result ≡ untold_desk 0 0 }
     {
         FileDesk {
             system: System::new(files),
@@ -35,35 +44,37 @@ impl<R: Files + AllocGlobal + Drop> FileDesk<R> {
             writes: FaultCount::new(),
         }
     }
+
+    /// Makes room to keep the files of these names. Calls on other names make room for each when
+    /// they open it, and there want of memory is a fault.
+    pub fn reserve(&mut self, names: &[String]) -> Result<(), AllocError>
+        ensures { let state = ⟦<FileDesk<R> as Desk>⟧.state in state self.new ≡ state self.old }
+    {
+        self.system.reserve(names)
+    }
 }
 
-impl<R: Files + AllocGlobal + Drop> Desk for FileDesk<R> {
-    ghost tells = { λ desk. false };
-
-    ghost files = { λ desk name. None };
-
-    ghost read_faults = { λ desk. desk.reads.count };
-
-    ghost write_faults = { λ desk. desk.writes.count };
+impl<R: Files<File = File> + AllocGlobal + Drop> Desk for FileDesk<R> {
+    ghost state = { λ desk. untold_desk desk.reads.count desk.writes.count };
 
     fn size(&mut self, name: &str) -> Result<Option<u64>, Failed> {
-        self.reads.settle(self.system.size(name))
+        self.system.size(name, &mut self.reads)
     }
 
     fn read_at(&mut self, name: &str, at: u64, into: &mut [u8]) -> Result<usize, Failed> {
-        self.reads.settle(self.system.read_at(name, at, into))
+        self.system.read_at(name, at, into, &mut self.reads)
     }
 
     fn write_at(&mut self, name: &str, at: u64, bytes: &[u8]) -> Result<(), Failed> {
-        self.writes.settle(self.system.write_at(name, at, bytes))
+        self.system.write_at(name, at, bytes, &mut self.writes)
     }
 
     fn make(&mut self, name: &str) -> Result<(), Failed> {
-        self.writes.settle(self.system.make(name))
+        self.system.make(name, &mut self.writes)
     }
 
     fn cut(&mut self, name: &str, len: u64) -> Result<(), Failed> {
-        self.writes.settle(self.system.cut(name, len))
+        self.system.cut(name, len, &mut self.writes)
     }
 
     fn read_faults(&self) -> u64 {

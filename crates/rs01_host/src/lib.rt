@@ -1,18 +1,24 @@
-//! The real outside: files of the system, and its standard output.
+//! The real outside: files, drives and the standard output of the system.
 //!
 //! These tell nothing of contents. What is proved of them is that they are safe whatever the system
-//! does, that they answer a failure only where its count rose, and that after any other answer no
-//! count rose. That a failure of the system becomes such an answer, tests show.
+//! does, and that a call fails exactly where its count of faults rose by one: each error that reaches
+//! a count is counted there, so a call that went on after it couldn't succeed.
 #![tactic(auto)]
 
 mod fault_count;
 mod file_desk;
+mod file_drive;
+mod limit;
+mod naming;
+mod opened;
+mod place;
 mod reading;
 mod standard_sink;
 mod system;
 mod writing;
 
 pub use file_desk::FileDesk;
+pub use file_drive::FileDrive;
 pub use standard_sink::StdSink;
 
 #[cfg(test)]

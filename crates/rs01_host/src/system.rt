@@ -1,159 +1,303 @@
 //! Files of the system by their names.
-ghost use Rattle.std.specs.Prelude.{◌≡◌, ◌≢◌, ◌≤◌, Err, IfErr, IfOk, None, Ok, Some, length};
-ghost use Rattle.std.specs.IoError.{error_kind};
+ghost use Rattle.std.specs.Prelude.{◌≡◌, ◌<◌, ◌≤◌, true, IfOk, IfSome, OnOk, length, is_err};
+ghost use Rattle.rs01_host.specs.Counting.{Counts};
+ghost use Rattle.rs01_host.specs.Keeping.{IsAlone};
 
-use crate::reading::fill;
-use crate::writing::put_all;
-use std::fs::{self, Metadata, OpenFile, OpenOptions};
-use std::io::{self, Error, ErrorKind, Seek, SeekFrom};
-use std::os::unix::fs::{FileTypeExt, MetadataExt};
+use crate::fault_count::FaultCount;
+use crate::limit::longest_file;
+use crate::naming::{Identity, file_behind, look_up};
+use crate::opened::Opened;
+use rs01_outside::Failed;
+use std::alloc::AllocError;
+use std::fs::File;
 use std::rt::Files;
 
-// Files of the system, and the names that were asked for.
-//
-// Two names may stand for one file: by a dot in the path, a link or a second name of the file. A
-// name that would be changed is refused where it is another name of a file that was asked for by a
-// different name, so that no file is lost to a write that was meant for another.
+// A file that stays open, the place of its name among the names, and the file behind a loop device.
 #[derive(Drop)]
-pub(crate) struct System<R: Files + AllocGlobal + Drop> {
+pub(crate) struct Kept {
+    name: usize,
+    pub(crate) opened: Opened,
+    behind: Option<Identity>,
+}
+
+impl Kept {
+    fn lies_on(&self, other: Identity) -> bool {
+        match self.behind {
+            Some(file) => file.is_same(other),
+            None => false,
+        }
+    }
+
+    // Whether they share bytes: they are one file, or one of them is the file behind the other.
+    fn shares(&self, other: &Kept) -> bool
+        ensures { self.now.opened.identity ≡ other.now.opened.identity → result ≡ true }
+    {
+        self.opened.identity.is_same(other.opened.identity)
+            || self.lies_on(other.opened.identity)
+            || other.lies_on(self.opened.identity)
+    }
+}
+
+// Files of the system that stay open, each under the name that it was opened by.
+//
+// Two names may stand for one file: by a dot in the path, a link or a second name of the file, or
+// by a loop device and the file behind it. A file that would be changed is refused where it is open
+// under another name as well, so that none is lost to a write that was meant for another.
+#[derive(Drop)]
+pub(crate) struct System<R: Files<File = File> + AllocGlobal + Drop> {
     files: R,
-    asked: Vec<String>,
+    names: Vec<String>,
+    kept: Vec<Kept>,
+    limit: u64,
 }
 
-// What the system answered, with `None` where it says that there is no such file.
-fn present<T>(outcome: io::Result<T>) -> io::Result<Option<T>>
-    ensures value { IfOk outcome (λ value. result ≡ Ok (Some value)) }
-    ensures absent { IfErr outcome (λ error.
-        error_kind error ≡ ErrorKind.NotFound → result ≡ Ok None) }
-    ensures error { IfErr outcome (λ error.
-        error_kind error ≢ ErrorKind.NotFound → result ≡ Err error) }
-{
-    match outcome {
-        Ok(value) => Ok(Some(value)),
-        Err(error) => {
-            if error.kind() == ErrorKind::NotFound {
-                return Ok(None);
-            }
-            Err(error)
-        }
-    }
-}
-
-// What the system knows of a name. A folder is an error, and so is a pipe, which has no places.
-fn look_up<R: Files>(files: &R, name: &str) -> io::Result<Option<Metadata>> {
-    match present(fs::metadata(files, name))? {
-        Some(metadata) => {
-            if metadata.is_dir() || metadata.file_type().is_fifo() {
-                return Err(Error::from(ErrorKind::InvalidInput));
-            }
-            Ok(Some(metadata))
-        }
-        None => Ok(None),
-    }
-}
-
-// Whether a name stands for a file, known by its device and its number there.
-fn stands_for<R: Files>(files: &R, name: &str, device: u64, number: u64) -> io::Result<bool> {
-    match fs::metadata(files, name) {
-        Ok(metadata) => Ok(metadata.dev() == device && metadata.ino() == number),
-        Err(error) => match error.kind() {
-            ErrorKind::NotFound | ErrorKind::NotADirectory => Ok(false),
-            _ => Err(error),
-        },
-    }
-}
-
-impl<R: Files + AllocGlobal + Drop> System<R> {
+impl<R: Files<File = File> + AllocGlobal + Drop> System<R> {
     pub(crate) fn new(files: R) -> System<R> {
-        let alloc = files.alloc();
+        let names = Vec::new(files.alloc());
+        let kept = Vec::new(files.alloc());
+        let limit = longest_file(&files);
         System {
             files,
-            asked: Vec::new(alloc),
+            names,
+            kept,
+            limit,
         }
     }
 
-    // Keeps a name that is asked for.
-    fn keep(&mut self, name: &str) -> io::Result<()> {
-        if !self.asked.iter().any(|asked| asked.as_str() == name) {
-            let name = String::from_str(self.files.alloc(), name)?;
-            self.asked.push(name)?;
+    // Makes room to keep files of these names.
+    pub(crate) fn reserve(&mut self, names: &[String]) -> Result<(), AllocError> {
+        self.names.reserve(names.len())?;
+        self.kept.reserve(names.len())?;
+        for name in names {
+            self.names.push(name.clone()?)?;
         }
         Ok(())
     }
 
-    // What the system knows of a name that is to be changed. It is an error where the name is
-    // another name of a file that was asked for by a different name.
-    fn look_up_own(&mut self, name: &str) -> io::Result<Option<Metadata>> {
-        self.keep(name)?;
-        let Some(metadata) = look_up(&self.files, name)? else {
-            return Ok(None);
-        };
-        for asked in &self.asked {
-            let asked = asked.as_str();
-            if asked != name && stands_for(&self.files, asked, metadata.dev(), metadata.ino())? {
-                return Err(Error::from(ErrorKind::AlreadyExists));
-            }
-        }
-        Ok(Some(metadata))
+    // The place of a name among the names.
+    fn find_name(&self, name: &str) -> Option<usize> {
+        self.names.iter().position(|own| own.as_str() == name)
     }
 
-    pub(crate) fn size(&mut self, name: &str) -> io::Result<Option<u64>> {
-        self.keep(name)?;
-        if look_up(&self.files, name)?.is_none() {
-            return Ok(None);
+    // The place of the file that is open under a name.
+    fn find(&self, name: &str) -> Option<usize>
+        ensures { IfSome result (λ place. place < length self.now.kept.items) }
+    {
+        let own = self.find_name(name)?;
+        self.kept.iter().position(|kept| kept.name == own)
+    }
+
+    // Adds a name that there was no room made for.
+    fn add_name(&mut self, name: &str) -> Result<usize, AllocError> {
+        if let Some(own) = self.find_name(name) {
+            return Ok(own);
         }
-        match present(fs::open(&self.files, name))? {
-            Some(mut file) => Ok(Some(file.seek(SeekFrom::End(0))?)),
+        let own = self.names.len();
+        let text = String::from_str(self.files.alloc(), name)?;
+        self.names.push(text)?;
+        Ok(own)
+    }
+
+    // Keeps a file open under its name.
+    fn keep(&mut self, name: &str, opened: Opened, faults: &mut FaultCount) -> Result<usize, Failed>
+        ensures place { IfOk result (λ place. place < length self.new.kept.items) }
+        ensures counted { Counts faults.old faults.new (is_err result) }
+    {
+        let name = faults.settle(self.add_name(name))?;
+        let behind = faults.settle(file_behind(&self.files, opened.identity))?;
+        let place = self.kept.len();
+        faults.settle(
+            self.kept.push(Kept {
+                name,
+                opened,
+                behind,
+            }),
+        )?;
+        Ok(place)
+    }
+
+    // The place of a file that may be read, and `None` where the name isn't there.
+    fn open(&mut self, name: &str, faults: &mut FaultCount) -> Result<Option<usize>, Failed>
+        ensures place { IfOk result (λ found.
+            IfSome found (λ place. place < length self.new.kept.items)) }
+        ensures counted { Counts faults.old faults.new (is_err result) }
+    {
+        if let Some(place) = self.find(name) {
+            return Ok(Some(place));
+        }
+        match Opened::to_read(&self.files, name, faults)? {
+            Some(opened) => Ok(Some(self.keep(name, opened, faults)?)),
             None => Ok(None),
         }
     }
 
-    pub(crate) fn read_at(&mut self, name: &str, at: u64, into: &mut [u8]) -> io::Result<usize>
-        ensures { IfOk result (λ count. count ≤ length into.old) }
+    // A file that is open under another name as well is a fault.
+    fn refuse_other_names(&self, place: usize, faults: &mut FaultCount) -> Result<(), Failed>
+        requires { place < length self.now.kept.items }
+        ensures alone { OnOk result (IsAlone self.now.kept.items place) }
+        ensures counted { Counts faults.old faults.new (is_err result) }
     {
-        self.keep(name)?;
-        if look_up(&self.files, name)?.is_none() {
-            return Ok(0);
-        }
-        match present(fs::open(&self.files, name))? {
-            Some(mut file) => {
-                file.seek(SeekFrom::Start(at))?;
-                Ok(fill(&mut file, into)?)
+        for k in 0..self.kept.len() {
+            if k != place && self.kept[k].shares(&self.kept[place]) {
+                return faults.refuse();
             }
-            None => Ok(0),
         }
-    }
-
-    pub(crate) fn write_at(&mut self, name: &str, at: u64, bytes: &[u8]) -> io::Result<()> {
-        self.look_up_own(name)?;
-        let mut file = OpenOptions::new()
-            .write(true)
-            .create(true)
-            .open(&self.files, name)?;
-        if bytes.is_empty() {
-            // No byte would be written after the gap, so the gap is made by the length.
-            if file.seek(SeekFrom::End(0))? < at {
-                file.set_len(at)?;
-            }
-            return Ok(());
-        }
-        file.seek(SeekFrom::Start(at))?;
-        put_all(&mut file, bytes)
-    }
-
-    pub(crate) fn make(&mut self, name: &str) -> io::Result<()> {
-        self.look_up_own(name)?;
-        let _file = fs::create(&self.files, name)?;
         Ok(())
     }
 
-    pub(crate) fn cut(&mut self, name: &str, len: u64) -> io::Result<()> {
-        let Some(metadata) = self.look_up_own(name)? else {
+    // Lets a file be changed that was opened to be read.
+    fn allow_changes(
+        &mut self,
+        place: usize,
+        name: &str,
+        faults: &mut FaultCount,
+    ) -> Result<(), Failed>
+        requires { place < length self.old.kept.items }
+        ensures place { place < length self.new.kept.items }
+        ensures counted { Counts faults.old faults.new (is_err result) }
+    {
+        if self.kept[place].opened.can_write {
+            return Ok(());
+        }
+        let opened = Opened::to_change(&self.files, name, false, faults)?;
+        self.kept[place].opened.replace(opened, faults)?;
+        Ok(())
+    }
+
+    // The place of a file that may be changed. `None` where the name isn't there and isn't made.
+    fn open_to_change(
+        &mut self,
+        name: &str,
+        create: bool,
+        faults: &mut FaultCount,
+    ) -> Result<Option<usize>, Failed>
+        ensures place { IfOk result (λ found.
+            IfSome found (λ place. place < length self.new.kept.items)) }
+        ensures counted { Counts faults.old faults.new (is_err result) }
+    {
+        let place = match self.find(name) {
+            Some(place) => {
+                self.allow_changes(place, name, faults)?;
+                place
+            }
+            None => {
+                if look_up(&self.files, name, faults)?.is_none() && !create {
+                    return Ok(None);
+                }
+                let opened = Opened::to_change(&self.files, name, create, faults)?;
+                self.keep(name, opened, faults)?
+            }
+        };
+        self.refuse_other_names(place, faults)?;
+        Ok(Some(place))
+    }
+
+    // The place of a file that may be changed, which is made where the name isn't there.
+    fn open_or_make(&mut self, name: &str, faults: &mut FaultCount) -> Result<usize, Failed>
+        ensures place { IfOk result (λ place. place < length self.new.kept.items) }
+        ensures counted { Counts faults.old faults.new (is_err result) }
+    {
+        match self.open_to_change(name, true, faults)? {
+            Some(place) => Ok(place),
+            None => faults.refuse(),
+        }
+    }
+
+    // A file that holds anything but an error correction file is a fault, where another open file
+    // begins as one.
+    fn refuse_swapped(&self, place: usize, faults: &mut FaultCount) -> Result<(), Failed>
+        requires { place < length self.now.kept.items }
+        ensures { Counts faults.old faults.new (is_err result) }
+    {
+        if self.kept[place].opened.len == 0 || self.kept[place].opened.begins_as_ecc(faults)? {
+            return Ok(());
+        }
+        for k in 0..self.kept.len() {
+            if k != place && self.kept[k].opened.begins_as_ecc(faults)? {
+                return faults.refuse();
+            }
+        }
+        Ok(())
+    }
+
+    pub(crate) fn size(
+        &mut self,
+        name: &str,
+        faults: &mut FaultCount,
+    ) -> Result<Option<u64>, Failed>
+        ensures { Counts faults.old faults.new (is_err result) }
+    {
+        let Some(place) = self.open(name, faults)? else {
+            return Ok(None);
+        };
+        self.kept[place].opened.confirm(&self.files, name, faults)?;
+        Ok(Some(self.kept[place].opened.len))
+    }
+
+    pub(crate) fn read_at(
+        &mut self,
+        name: &str,
+        at: u64,
+        into: &mut [u8],
+        faults: &mut FaultCount,
+    ) -> Result<usize, Failed>
+        ensures bound { IfOk result (λ count. count ≤ length into.old) }
+        ensures counted { Counts faults.old faults.new (is_err result) }
+    {
+        let Some(place) = self.open(name, faults)? else {
+            return Ok(0);
+        };
+        let count = self.kept[place].opened.read_at(at, into, faults)?;
+        if self.kept[place].opened.ends_within(at, into.len()) {
+            self.kept[place].opened.confirm(&self.files, name, faults)?;
+        }
+        Ok(count)
+    }
+
+    pub(crate) fn write_at(
+        &mut self,
+        name: &str,
+        at: u64,
+        bytes: &[u8],
+        faults: &mut FaultCount,
+    ) -> Result<(), Failed>
+        ensures { Counts faults.old faults.new (is_err result) }
+    {
+        let place = self.open_or_make(name, faults)?;
+        self.kept[place]
+            .opened
+            .write_at(at, bytes, self.limit, faults)?;
+        self.kept[place].opened.confirm(&self.files, name, faults)?;
+        Ok(())
+    }
+
+    pub(crate) fn make(&mut self, name: &str, faults: &mut FaultCount) -> Result<(), Failed>
+        ensures { Counts faults.old faults.new (is_err result) }
+    {
+        let place = self.open_or_make(name, faults)?;
+        self.refuse_swapped(place, faults)?;
+        self.kept[place]
+            .opened
+            .shorten(&self.files, name, 0, faults)?;
+        Ok(())
+    }
+
+    pub(crate) fn cut(
+        &mut self,
+        name: &str,
+        len: u64,
+        faults: &mut FaultCount,
+    ) -> Result<(), Failed>
+        ensures { Counts faults.old faults.new (is_err result) }
+    {
+        let Some(place) = self.open_to_change(name, false, faults)? else {
             return Ok(());
         };
-        if metadata.len() > len {
-            let file = OpenOptions::new().write(true).open(&self.files, name)?;
-            file.set_len(len)?;
+        self.kept[place].opened.confirm(&self.files, name, faults)?;
+        if len < self.kept[place].opened.len {
+            self.kept[place]
+                .opened
+                .shorten(&self.files, name, len, faults)?;
         }
         Ok(())
     }

@@ -1,0 +1,5 @@
+mod Numbers
+mod Places
+mod Told
+mod Tries
+mod Walk

@@ -1,0 +1,5 @@
+pub mod Rack
+pub mod State
+pub mod Asking
+pub mod Counting
+pub mod Seen
