@@ -1,4 +1,5 @@
-mod Pieces
+mod Answers
+mod Looks
 mod Refusals
 mod Sectors
 mod Writes

@@ -9,14 +9,16 @@ use Rattle.std.specs.Bool.{Decides}
 use Rattle.std.proofs.lemmas.Bool.Decides.{same_from_decides}
 use Rattle.std.proofs.lemmas.Slice.Eq.{bytes_eq-Decides}
 use Rattle.rs01_layers.specs.Sectors.{sectors_of, last_of, length_of, block, sector}
+use Rattle.rs01_layers.specs.Extents.{IsExtentOf}
+use Rattle.rs01_layers.specs.declared.extent.Extent.{Extent}
 use Rattle.rs01_sums.specs.Marker.{marker}
 use Rattle.rs01_create.specs.Create.{first_marked}
-use Rattle.rs01_ecchead.proofs.Ranges.{range_with_len_more, range_with_len-append}
+use Rattle.rs01_lists.proofs.Ranges.{range_with_len-append, range_with_len_more}
 
 -- a block of the sector's length is the sector
-pub is_sector : (image b : List ℕ) (n last s len : ℕ) → n ≡ sectors_of (length image) → last ≡ last_of (length image)
-    → len ≡ length_of n last s → b ≡ block image s len → b ≡ sector image s
-is_sector image b n last s len ne le e f = f ∙ ap (block image s) (e ∙ (λ i. length_of (ne i) (le i) s))
+pub is_sector : (image b : List ℕ) (extent : Extent) (s len : ℕ) → IsExtentOf image extent
+    → len ≡ length_of extent.sectors extent.last_bytes s → b ≡ block image s len → b ≡ sector image s
+is_sector image b extent s len of e f = f ∙ ap (block image s) (e ∙ (λ i. length_of (of.sectors i) (of.last i) s))
 
 -- nothing is found among the numbers below n + 1
 pub find_none_more : (p : ℕ → Bool) (n : ℕ) → find p (range_with_len 0 n) ≡ None → p n ≡ false → find p (range_with_len 0 (n + 1)) ≡ None

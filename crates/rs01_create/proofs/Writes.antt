@@ -1,44 +1,43 @@
 -- What the writes of a new file leave, one after the other.
 use Rattle.std.proofs.Common.{◌≡◌, ℕ, zero, suc, ◌+◌, ◌-◌, ◌≤◌, List, [], ◌∷◌, ◌++◌, length, take, drop, replicate, refl, sym, ap, ◌∙◌, subst, arith, ◌⊎◌, inl, inr, ⊎_elim, append_assoc, append-nil, min}
-use Rattle.std.specs.Prelude.{Option, Some, Result, Ok, Err, IsSomeAnd, OnErr, IsTrue, Bool}
+use Rattle.std.specs.Prelude.{Option, Some, Result, Ok, Err, IsErr, IsSomeAnd, IsTrue, Bool}
 use Rattle.std.specs.Option.{unwrap_or}
 use Rattle.std.proofs.Math.Seq.{take-append_seam, drop-append-add, drop-append_seam}
 use Rattle.std.proofs.lemmas.List.{length-replicate, length-append, length-take, drop-replicate, drop-append-le}
 use Rattle.rs01_outside.specs.Files.{Files, Becomes, SameElsewhere, bytes_of, put_at}
-use Rattle.rs01_ecchead.specs.Header.{zeros}
-use Rattle.rs01_create.specs.Unfinished.{IsUnfinished, IsBegun}
-
-pub on_err : {T E : Type 0} (r : Result T E) {P : Type 0} → P → OnErr r P
-on_err (Ok x) p = tt
-on_err (Err e) p = p
+use Rattle.rs01_lists.specs.Bytes.{padded, zeros}
+use Rattle.rs01_lists.proofs.Padding.{length-zeros}
+use Rattle.rs01_create.specs.Unfinished.{IsUnfinished, IsBegun, Writes}
 
 pub told : (a b : Bool) → a ≡ b → IsTrue b → IsTrue a
 told a b e t = subst IsTrue (sym e) t
 
+drop-zeros : (m n : ℕ) → drop m (zeros n) ≡ zeros (n - m)
+unfolding zeros
+drop-zeros m n = drop-replicate m n 0
+
+no_zeros : zeros 0 ≡ []
+unfolding zeros
+no_zeros = refl
+
 -- bytes put at the end of a file come behind it
 pub put_at-end : (file bytes : List ℕ) (at : ℕ) → length file ≡ at → put_at file at bytes ≡ file ++ bytes
+unfolding padded
 put_at-end file bytes at e =
     let n = at + length bytes - length file in
     let none : n - length bytes ≡ 0 = omega arith in
-    (λ i. take (sym e i) (file ++ replicate n 0) ++ bytes ++ drop (sym e i + length bytes) (file ++ replicate n 0))
-    ∙ (λ i. take-append_seam file (replicate n 0) i ++ bytes
-    ++ (drop-append-add file (replicate n 0) (length bytes) ∙ drop-replicate (length bytes) n 0 ∙ ap (λ k. replicate k 0) none) i)
+    (λ i. take (sym e i) (file ++ zeros n) ++ bytes ++ drop (sym e i + length bytes) (file ++ zeros n))
+    ∙ (λ i. take-append_seam file (zeros n) i ++ bytes
+    ++ (drop-append-add file (zeros n) (length bytes) ∙ drop-zeros (length bytes) n ∙ ap zeros none ∙ no_zeros) i)
     ∙ append-nil (file ++ bytes)
 
 -- bytes put at the front of as many or more
 pub put_at-front : (file bytes : List ℕ) → length bytes ≤ length file → put_at file 0 bytes ≡ bytes ++ drop (length bytes) file
+unfolding padded
 put_at-front file bytes fits =
     let none : 0 + length bytes - length file ≡ 0 = omega arith in
     let same : 0 + length bytes ≡ length bytes = omega arith in
-    λ i. bytes ++ drop (same i) ((ap (λ k. file ++ replicate k 0) none ∙ append-nil file) i)
-
-pub length-zeros : (n : ℕ) → length (zeros n) ≡ n
-unfolding zeros
-length-zeros n = length-replicate n 0
-
-drop-zeros : (m n : ℕ) → drop m (zeros n) ≡ zeros (n - m)
-unfolding zeros
-drop-zeros m n = drop-replicate m n 0
+    λ i. bytes ++ drop (same i) ((ap (λ k. file ++ zeros k) none ∙ ap (λ xs. file ++ xs) no_zeros ∙ append-nil file) i)
 
 -- the front of zeros is zeros
 zeros_front : (m n : ℕ) → take m (zeros n) ≡ zeros (length (take m (zeros n)))
@@ -88,20 +87,16 @@ zeros_begun header file n e = inl (ap (take 4096) e ∙ zeros_front 4096 n ∙ a
 body_begun : (header file rest : List ℕ) → file ≡ zeros 4096 ++ rest → IsBegun header file
 body_begun header file rest e = inl (ap (take 4096) e ∙ zeros_before 4096 rest ∙ ap (λ xs. zeros (length (take 4096 xs))) (sym e))
 
-no_zeros : [] ≡ zeros 0
-unfolding zeros
-no_zeros = refl
-
 -- a desk without the file, the empty one, one of zeros, and one with the body behind them
 pub left_by_make : (name header : List ℕ) (f0 f1 : Files) → (f1 ≡ f0) ⊎ Becomes name [] f0 f1 → IsUnfinished header (f0 name) (f1 name)
 left_by_make name header f0 f1 =
-    ⊎_elim (λ e. inl (ap (λ (f : Files). f name) e)) (λ b. begun header [] (f0 name) (f1 name) b.there (zeros_begun header [] 0 no_zeros))
+    ⊎_elim (λ e. inl (ap (λ (f : Files). f name) e)) (λ b. begun header [] (f0 name) (f1 name) b.there (zeros_begun header [] 0 (sym no_zeros)))
 
 pub left_by_zeros : (name header z : List ℕ) (f0 f1 f2 : Files) → Becomes name [] f0 f1 → z ≡ zeros 4096
     → (f2 ≡ f1) ⊎ ((kept : ℕ) × Becomes name (put_at (bytes_of f1 name) 0 (take kept z)) f1 f2) → IsUnfinished header (f0 name) (f2 name)
 left_by_zeros name header z f0 f1 f2 made e =
     ⊎_elim
-    (λ same. begun header [] (f0 name) (f2 name) (ap (λ (f : Files). f name) same ∙ made.there) (zeros_begun header [] 0 no_zeros))
+    (λ same. begun header [] (f0 name) (f2 name) (ap (λ (f : Files). f name) same ∙ made.there) (zeros_begun header [] 0 (sym no_zeros)))
     (λ (kept, b).
     let file = put_at (bytes_of f1 name) 0 (take kept z) in
     let is : file ≡ take kept (zeros 4096) =
@@ -161,3 +156,9 @@ file_stands name header body f0 f3 f4 long stands b =
 pub zeros_made : replicate 4096 0 ≡ zeros 4096
 unfolding zeros
 zeros_made = refl
+
+-- a step that failed
+pub failed : {E : Type 0} (header body name : List ℕ) (old new : Files) (r : Result Unit E) → IsErr r → IsUnfinished header (old name) (new name)
+    → Writes header body name old new r
+failed header body name old new (Ok u) e p = cc
+failed header body name old new (Err x) e p = p

@@ -31,16 +31,6 @@ abbrev pub refusal_of : Option (List ℕ) → Option CreateRefusal
 refusal_of None = Some NoImage
 refusal_of (Some image) = image_refusal image
 
--- a refusal that comes from the image, and from no fault or want of memory
-abbrev pub IsOfImage : CreateRefusal → Type 0
-IsOfImage NoImage = Unit {0}
-IsOfImage EmptyImage = Unit {0}
-IsOfImage (TooManySectors n) = Unit {0}
-IsOfImage (Marker s) = Unit {0}
-IsOfImage ReadFault = ⊥
-IsOfImage WriteFault = ⊥
-IsOfImage OutOfMemory = ⊥
-
 -- what is told of a new file
 unfoldable pub report_of : List ℕ → ℕ → CreateReport
 report_of image r = record {

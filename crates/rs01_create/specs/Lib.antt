@@ -1,2 +1,5 @@
 pub mod Create
 pub mod Unfinished
+pub mod Answer
+pub mod Inputs
+pub mod Looking

@@ -1,6 +1,6 @@
 //! An image that is held whole.
-ghost use Rattle.std.specs.Prelude.{◌≡◌, length};
-ghost use Rattle.rs01_layers.specs.Sectors.{sectors_of, last_of};
+ghost use Rattle.std.specs.Prelude.{◌≡◌};
+ghost use Rattle.rs01_layers.specs.Extents.{IsExtentOf};
 
 use rs01_layers::{Extent, Shape};
 
@@ -10,7 +10,6 @@ pub struct Image {
     pub bytes: Vec<u8>,
     pub extent: Extent,
     pub shape: Shape,
-    ghost counted: { extent.sectors ≡ sectors_of (length bytes.items) },
-    ghost last_counted: { extent.last_bytes ≡ last_of (length bytes.items) },
-    ghost shaped: { shape.sectors ≡ sectors_of (length bytes.items) },
+    ghost extended: { IsExtentOf bytes.items extent },
+    ghost shaped: { shape.sectors ≡ extent.sectors },
 }

@@ -1,6 +1,6 @@
 //! Looking for sectors that are marked as missing.
-ghost use Rattle.std.specs.Prelude.{◌≡◌, length};
-ghost use Rattle.rs01_layers.specs.Sectors.{sectors_of, last_of};
+ghost use Rattle.std.specs.Prelude.{◌≡◌};
+ghost use Rattle.rs01_layers.specs.Extents.{IsExtentOf};
 ghost use Rattle.rs01_create.specs.Create.{first_marked};
 
 use rs01_layers::{Extent, block_into};
@@ -8,8 +8,7 @@ use rs01_sums::is_marker;
 
 // The lowest sector that is the marker of a missing one.
 pub fn find_marked(image: &[u8], extent: &Extent) -> Option<u32>
-    requires sectors { extent.now.sectors ≡ sectors_of (length image.now) }
-    requires last { extent.now.last_bytes ≡ last_of (length image.now) }
+    requires { IsExtentOf image.now extent.now }
     ensures { result ≡ first_marked image.now }
 {
     let mut block = [0u8; 2048];

@@ -1,70 +1,85 @@
-//! The parity of an image that is held whole.
-ghost use Rattle.std.specs.Prelude.{◌≡◌, ◌-◌, ◌<◌, ◌++◌, length, OnOk};
-ghost use Rattle.rs01_poly.specs.Code.{encode};
-ghost use Rattle.rs01_layers.specs.Sectors.{sectors_of};
+//! The parity of an image that is held whole, layer by layer.
+ghost use Rattle.std.specs.Prelude.{◌≡◌, ◌<◌, ◌++◌, IfOk, OnOk};
 ghost use Rattle.rs01_layers.specs.Layout.{layers_of};
-ghost use Rattle.rs01_layers.specs.Layer.{column, layer as blocks_of_layer};
 ghost use Rattle.rs01_ecchead.specs.EccFile.{layer_parity, parity_bytes};
+ghost use Rattle.rs01_create.specs.Inputs.{HoldsLayer, IsInputOf};
 
-use rs01_encode::Encoder;
-use rs01_layers::{Shape, column_into};
-use std::alloc::AllocError;
+use crate::image::Image;
+use rs01_encode::EncodeTask;
+use rs01_layers::{Bytes, Flags, LayerInput, LayerTask, SumList, push_layer as push_blocks};
+use std::alloc::{AllocError, Global};
 
-// Puts the parity of one codeword behind what is there. The two buffers are only used meanwhile.
-fn push_codeword(
-    image: &[u8],
-    shape: &Shape,
-    encoder: &Encoder,
-    layer: u32,
-    codeword: u32,
-    data_: &mut [u8],
-    parity: &mut [u8],
-    out: &mut Vec<u8>,
-) -> Result<(), AllocError>
-    requires sectors { sectors_of (length image.now) ≡ shape.now.sectors }
-    requires encoder { encoder.now ≡ shape.now.parity }
-    requires layer { layer < layers_of shape.now.sectors shape.now.parity }
-    requires codeword { codeword < 2048 }
-    requires data_room { length data_.old ≡ 255 - shape.now.parity }
-    requires parity_room { length parity.old ≡ shape.now.parity }
-    ensures { OnOk result (out.new.items ≡ out.old.items ++ encode (column (blocks_of_layer image.now shape.now.parity layer) codeword)) }
+// The blocks of a layer, by place.
+fn layer_blocks(alloc: Global, image: &Image, layer: u32) -> Result<Vec<u8>, AllocError>
+    requires { layer < layers_of image.now.shape.sectors image.now.shape.parity }
+    ensures { let r = image.now.shape.parity in
+        IfOk result (λ bytes. HoldsLayer image.now.bytes.items r layer bytes.items) }
 {
-    column_into(image, shape, layer, codeword, data_);
-    encoder.encode(data_, parity);
-    out.extend_from_slice(parity)
+    let mut blocks = Vec::with_capacity(alloc, 2048 * image.shape.data() as usize)?;
+    push_blocks(
+        &image.bytes,
+        &image.extent,
+        &image.shape,
+        layer,
+        &mut blocks,
+    )?;
+    Ok(blocks)
+}
+
+// What encoding is given of a layer: its blocks. No place is erased, and no checksum is looked at.
+fn layer_input(alloc: Global, image: &Image, layer: u32) -> Result<LayerInput, AllocError>
+    requires { layer < layers_of image.now.shape.sectors image.now.shape.parity }
+    ensures { let r = image.now.shape.parity in
+        IfOk result (λ input. IsInputOf image.now.bytes.items r layer input) }
+{
+    let blocks = layer_blocks(alloc, image, layer)?;
+    let places = image.shape.data() as usize;
+    let erased = vec![in alloc; false; places]?;
+    let sums = vec![in alloc; 0u32; places]?;
+    Ok(LayerInput {
+        layer,
+        parity_count: image.shape.parity(),
+        data_: Bytes::of(blocks),
+        erased: Flags::of(erased),
+        sums: SumList::of(sums),
+        parity: Bytes::of(Vec::new(alloc)),
+    })
+}
+
+// Puts bytes behind what is there.
+fn push_bytes(bytes: &[u8], out: &mut Vec<u8>) -> Result<(), AllocError>
+    ensures { OnOk result (out.new.items ≡ out.old.items ++ bytes.now) }
+{
+    out.extend_from_slice(bytes)
 }
 
 // Puts the parity of a layer behind what is there.
 fn push_layer(
-    image: &[u8],
-    shape: &Shape,
-    encoder: &Encoder,
+    alloc: Global,
+    task: &EncodeTask,
+    image: &Image,
     layer: u32,
     out: &mut Vec<u8>,
 ) -> Result<(), AllocError>
-    requires sectors { sectors_of (length image.now) ≡ shape.now.sectors }
-    requires encoder { encoder.now ≡ shape.now.parity }
-    requires layer { layer < layers_of shape.now.sectors shape.now.parity }
-    ensures { OnOk result (out.new.items ≡ out.old.items ++ layer_parity image.now shape.now.parity layer) }
+    requires { layer < layers_of image.now.shape.sectors image.now.shape.parity }
+    ensures { let parity = layer_parity image.now.bytes.items image.now.shape.parity layer in
+        OnOk result (out.new.items ≡ out.old.items ++ parity) }
 {
-    let mut data_buffer = [0u8; 247];
-    let mut parity_buffer = [0u8; 100];
-    let data_ = &mut data_buffer[..shape.data() as usize];
-    let parity = &mut parity_buffer[..shape.parity() as usize];
-    for codeword in 0..2048u32 {
-        push_codeword(image, shape, encoder, layer, codeword, data_, parity, out)?;
+    let input = layer_input(alloc, image, layer)?;
+    match task.work(alloc, &input)?.into_parity() {
+        Some(parity) => push_bytes(parity.items(), out),
+        None => unreachable!(),
     }
-    Ok(())
 }
 
 // Puts the parity of all layers behind what is there.
-pub fn push_parity(image: &[u8], shape: &Shape, out: &mut Vec<u8>) -> Result<(), AllocError>
-    requires { sectors_of (length image.now) ≡ shape.now.sectors }
-    ensures { OnOk result (out.new.items ≡ out.old.items ++ parity_bytes image.now shape.now.parity) }
+pub fn push_parity(alloc: Global, image: &Image, out: &mut Vec<u8>) -> Result<(), AllocError>
+    ensures { let parity = parity_bytes image.now.bytes.items image.now.shape.parity in
+        OnOk result (out.new.items ≡ out.old.items ++ parity) }
 {
-    let encoder = Encoder::new(shape.parity());
-    for layer in 0..shape.layers() {
-        push_layer(image, shape, &encoder, layer, out)?;
+    let task = EncodeTask::new(alloc, image.shape.parity())?;
+    for layer in 0..image.shape.layers() {
+        push_layer(alloc, &task, image, layer, out)?;
     }
     Ok(())
 }

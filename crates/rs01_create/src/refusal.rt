@@ -1,4 +1,7 @@
 //! Why no error correction file was made.
+ghost use Rattle.std.specs.Prelude.{◌≡◌};
+
+use std::alloc::AllocError;
 use thiserror::Error;
 
 /// Why no error correction file was made. The first four are told in this order, before anything is written.
@@ -25,4 +28,14 @@ pub enum CreateRefusal {
     /// Memory ran out.
     #[error("memory ran out")]
     OutOfMemory,
+}
+
+impl From<AllocError> for CreateRefusal {
+    ghost use Rattle.rs01_create.specs.declared.refusal.CreateRefusal.TheVariants.{OutOfMemory};
+
+    ghost from_gives = { λ _ why. why ≡ OutOfMemory };
+
+    fn from(_lack: AllocError) -> CreateRefusal {
+        CreateRefusal::OutOfMemory
+    }
 }

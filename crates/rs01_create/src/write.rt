@@ -1,8 +1,7 @@
 //! Writing the file: its header comes last, so that a file that isn't finished is no error correction file.
-ghost use Rattle.std.specs.Prelude.{◌≡◌, ◌++◌, IsTrue, OnOk, OnErr, length};
-ghost use Rattle.rs01_outside.specs.Causes.{HasCause};
-ghost use Rattle.rs01_outside.specs.Files.{Becomes, SameElsewhere};
-ghost use Rattle.rs01_create.specs.Unfinished.{IsUnfinished};
+ghost use Rattle.std.specs.Prelude.{◌++◌, IsTrue, is_err};
+ghost use Rattle.rs01_outside.specs.DeskState.{OnlyChanges};
+ghost use Rattle.rs01_create.specs.Unfinished.{Writes};
 
 use rs01_outside::{Desk, Failed};
 
@@ -13,12 +12,10 @@ pub fn write_file<D: Desk>(
     header: &[u8; 4096],
     body: &[u8],
 ) -> Result<(), Failed>
-    ensures tells { D.tells desk.new ≡ D.tells desk.old }
-    ensures done { IsTrue (D.tells desk.old) → OnOk result (Becomes name.now (header.now ++ body.now) (D.files desk.old) (D.files desk.new)) }
-    ensures elsewhere { IsTrue (D.tells desk.old) → SameElsewhere name.now (D.files desk.old) (D.files desk.new) }
-    ensures left { IsTrue (D.tells desk.old) → OnErr result (IsUnfinished header.now (D.files desk.old name.now) (D.files desk.new name.now)) }
-    ensures cause { HasCause (D.write_faults desk.old) (D.write_faults desk.new) result }
-    ensures reads { D.read_faults desk.new ≡ D.read_faults desk.old }
+    ensures changes { OnlyChanges name.now (D.state desk.old) (D.state desk.new) (is_err result) }
+    ensures written { IsTrue (D.state desk.old).tells
+        → Writes header.now body.now name.now (D.state desk.old).files
+        (D.state desk.new).files result }
 {
     desk.make(name)?;
     desk.write_at(name, 0, &[0; 4096])?;

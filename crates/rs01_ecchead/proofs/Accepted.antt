@@ -4,7 +4,8 @@ use Rattle.std.specs.Prelude.{codes, Ok, Err}
 use Rattle.std.specs.Str.{bytes_eq}
 use Rattle.std.proofs.lemmas.Bool.Decides.{nat_tests}
 use Rattle.rs01_ecchead.specs.declared.head.HeadRefusal.TheVariants.{Cookie}
-use Rattle.rs01_ecchead.specs.Header.{Fields, head_of, judged, part}
+use Rattle.rs01_ecchead.specs.Header.{Fields, head_of, judged}
+use Rattle.rs01_lists.specs.Bytes.{part}
 
 pub accepted : (cookie method : Bool) (needed sectors data_bytes parity last_bytes : ℕ) (fields : Fields) → cookie ≡ true → method ≡ true
     → needed ≤ 1 → 1 ≤ sectors → sectors ≤ 16777215 → 8 ≤ parity → parity ≤ 100 → data_bytes + parity ≡ 255 → last_bytes ≤ 2048

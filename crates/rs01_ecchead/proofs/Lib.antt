@@ -1,10 +1,10 @@
 pub mod ErasedLemmas
+pub mod ConditionLemmas
+mod RunLemmas
 mod Zeros
 mod Accepted
 mod OpenedLemmas
-mod Parts
+pub mod Parts
 mod RoundTrip
-pub mod Ranges
 mod RecordedSums
-pub mod Flats
 pub mod ReadAgain

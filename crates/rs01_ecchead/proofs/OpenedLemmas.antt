@@ -1,5 +1,5 @@
 -- What is told of a file that was found to have n bytes.
-use Rattle.std.proofs.Common.{◌≡◌, ◌≢◌, ℕ, ◌<◌, ◌≤◌, List, [], length, take, drop, refl, sym, ap, ◌∙◌, arith, Bool, true, false, ◌⊎◌, ⊎_elim}
+use Rattle.std.proofs.Common.{◌≡◌, ◌≢◌, ℕ, ◌<◌, ◌≤◌, List, [], length, take, drop, refl, sym, ap, ◌∙◌, arith, Bool, true, false}
 use Rattle.std.specs.Prelude.{Option, Some, None, Result, Ok, Err, ◌==◌, not, if◌then◌else◌}
 use Rattle.std.specs.Option.{option_map, unwrap_or}
 use Rattle.std.specs.Str.{bytes_eq}
@@ -12,7 +12,11 @@ use Rattle.rs01_ecchead.specs.declared.head.HeadRefusal.{HeadRefusal}
 use Rattle.rs01_ecchead.specs.declared.opened.EccRefusal.{EccRefusal}
 use Rattle.rs01_ecchead.specs.declared.opened.EccRefusal.TheVariants.{Body, Head, NoFile, OutOfMemory, ReadFault, Size}
 use Rattle.rs01_ecchead.specs.Header.{Fields, head_of}
-use Rattle.rs01_ecchead.specs.Opened.{opened, opened_with, opened_file, IsOfFile, IsOfHead}
+use Rattle.rs01_ecchead.specs.Opened.{IsOfFile, Opened, opened, opened_as, opened_by, opened_file, opened_with}
+use Rattle.rs01_ecchead.specs.Opening.{IsOfHeader, Opens, ReadsHeader}
+use Rattle.rs01_ecchead.specs.Head.{fields_of}
+use Rattle.rs01_ecchead.specs.Recorded.{parity_in, sums_in}
+use Rattle.rs01_ecchead.specs.declared.opened.Ecc.{Ecc}
 
 pub too_short : (o : Option (List ℕ)) (n : ℕ) → Some n ≡ option_map length o → n < 4096 → opened_file o ≡ Err (Size n 4096)
 unfolding opened
@@ -45,7 +49,7 @@ bad_size (Some file) n f e l h ne =
 
 -- a file of the right length is judged by its digest
 right_size : (file : List ℕ) (n : ℕ) (f : Fields) → length file ≡ n → 4096 ≤ n → head_of (take 4096 file) ≡ Ok f → n ≡ file_size f.sectors f.parity
-    → opened file ≡ (if not (bytes_eq (md5 (drop 4096 file)) f.body_sum) then Err (Body (md5 (drop 4096 file)) f.body_sum) else Ok f)
+    → opened file ≡ (if not (bytes_eq (md5 (drop 4096 file)) f.body_sum) then Err (Body (md5 (drop 4096 file)) f.body_sum) else Ok (opened_by f file))
 unfolding opened_with
 right_size file n f same l h size =
     let test : (length file == file_size f.sectors f.parity) ≡ true = (Decides-eqb (length file) (file_size f.sectors f.parity)).1 (same ∙ size) in
@@ -61,7 +65,7 @@ bad_body (Some file) n f digest e l h size d test =
 
 pub all_right : (o : Option (List ℕ)) (n : ℕ) (f : Fields) (digest : List ℕ) → Some n ≡ option_map length o → 4096 ≤ n → head_of (take 4096 (unwrap_or o [])) ≡ Ok f
     → n ≡ file_size f.sectors f.parity → digest ≡ md5 (drop 4096 (unwrap_or o [])) → bytes_eq digest f.body_sum ≡ true
-    → opened_file o ≡ Ok f
+    → opened_file o ≡ Ok (opened_by f (unwrap_or o []))
 all_right None n f digest e l h size d test = cc
 all_right (Some file) n f digest e l h size d test =
     let same : length file ≡ n = cc in
@@ -70,16 +74,6 @@ all_right (Some file) n f digest e l h size d test =
 pub size_is : (o : Option (List ℕ)) (n : ℕ) → Some n ≡ option_map length o → length (unwrap_or o []) ≡ n
 size_is None n e = cc
 size_is (Some file) n e = cc
-
--- a refusal of the header alone
-pub by_header : (o : Option (List ℕ)) (n : ℕ) (w : EccRefusal) → Some n ≡ option_map length o → 4096 ≤ n → (w ≡ ReadFault) ⊎ IsOfHead w → IsOfFile w
-    → ((why : HeadRefusal) → w ≡ Head why → head_of (take 4096 (unwrap_or o [])) ≡ Err why) → opened_file o ≡ Err w
-by_header o n (Head why) e l cause of h = bad_head o n why e l (h why refl)
-by_header o n NoFile e l cause of h = absurd (⊎_elim (λ f. cc) (λ f. f) cause)
-by_header o n (Size have want) e l cause of h = absurd (⊎_elim (λ f. cc) (λ f. f) cause)
-by_header o n (Body have want) e l cause of h = absurd (⊎_elim (λ f. cc) (λ f. f) cause)
-by_header o n ReadFault e l cause of h = absurd of
-by_header o n OutOfMemory e l cause of h = absurd of
 
 -- what was read later, when the files were still the same
 pub long_then : (f0 f1 : Files) (name : List ℕ) (n : ℕ) → Some n ≡ option_map length (f0 name) → f1 ≡ f0 → length (bytes_of f1 name) ≡ n
@@ -95,6 +89,11 @@ pub digest_then : (f0 f1 : Files) (name : List ℕ) (n want : ℕ) (digest : Lis
 digest_then f0 f1 name n want digest e same size read =
     read (long_then f0 f1 name n e same ∙ size) ∙ ap (λ (f : Files). md5 (drop 4096 (bytes_of f name))) same
 
+pub sums_then : (f0 f1 : Files) (name : List ℕ) (n want : ℕ) (sums : List ℕ) (m k : ℕ) → Some n ≡ option_map length (f0 name) → f1 ≡ f0 → n ≡ want → m ≡ k
+    → (length (bytes_of f1 name) ≡ want → sums ≡ sums_in (bytes_of f1 name) m) → sums ≡ sums_in (bytes_of f0 name) k
+sums_then f0 f1 name n want sums m k e same size count read =
+    read (long_then f0 f1 name n e same ∙ size) ∙ (λ i. sums_in (bytes_of (same i) name) (count i))
+
 pub differs : (b r : Bool) → r ≡ not b → r ≡ true → b ≡ false
 differs true r e t = cc
 differs false r e t = refl
@@ -102,3 +101,28 @@ differs false r e t = refl
 pub agrees : (b r : Bool) → r ≡ not b → r ≡ false → b ≡ true
 agrees true r e t = refl
 agrees false r e t = cc
+
+-- a refusal of the header alone
+by_header : (o : Option (List ℕ)) (n : ℕ) (w : EccRefusal) → Some n ≡ option_map length o → 4096 ≤ n → IsOfHeader w → IsOfFile w
+    → ((why : HeadRefusal) → w ≡ Head why → head_of (take 4096 (unwrap_or o [])) ≡ Err why) → opened_file o ≡ Err w
+by_header o n (Head why) e l cause of h = bad_head o n why e l (h why refl)
+by_header o n NoFile e l cause of h = absurd cause
+by_header o n (Size have want) e l cause of h = absurd cause
+by_header o n (Body have want) e l cause of h = absurd cause
+by_header o n ReadFault e l cause of h = absurd of
+by_header o n OutOfMemory e l cause of h = absurd cause
+
+-- the answer that hands it on
+pub header_refuses : (f0 f1 : Files) (name : List ℕ) (n : ℕ) (answer : Result Ecc EccRefusal) (x w : EccRefusal) → answer ≡ Err x → x ≡ w
+    → Some n ≡ option_map length (f0 name) → f1 ≡ f0 → 4096 ≤ n → IsOfHeader w
+    → (4096 ≤ length (bytes_of f1 name) → ReadsHeader (bytes_of f1 name) (Err w)) → Opens (f0 name) answer
+header_refuses f0 f1 name n answer x w is from e same l cause read =
+    rw (is, from) (λ of. by_header (f0 name) n w e l cause of (λ why h. head_then f0 f1 name n (Err why) e same l (λ long. read long why h)))
+
+-- the answer that keeps what it read
+pub body_agrees : (o : Option (List ℕ)) (n : ℕ) (ecc : Ecc) (digest : List ℕ) → Some n ≡ option_map length o → 4096 ≤ n
+    → head_of (take 4096 (unwrap_or o [])) ≡ Ok (fields_of ecc.head) → n ≡ file_size ecc.head.sectors ecc.head.parity → digest ≡ md5 (drop 4096 (unwrap_or o []))
+    → bytes_eq digest ecc.head.body_sum ≡ true → ecc.sums.list ≡ sums_in (unwrap_or o []) ecc.head.sectors → opened_file o ≡ Ok (opened_as ecc (unwrap_or o []))
+body_agrees o n ecc digest e l h size d test sums =
+    all_right o n (fields_of ecc.head) digest e l h size d test
+    ∙ ap (λ xs. let answer : Result Opened EccRefusal = Ok (record { fields = fields_of ecc.head; sums = xs; parity = parity_in (unwrap_or o []) ecc.head.sectors ecc.head.parity }) in answer) (sym sums)

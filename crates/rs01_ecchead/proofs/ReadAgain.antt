@@ -1,6 +1,6 @@
 -- The error correction file of an image is opened, and what it records is read again.
-use Rattle.std.proofs.Common.{◌≡◌, ℕ, ◌+◌, ◌-◌, ◌*◌, ◌<◌, ◌≤◌, List, ◌++◌, length, take, drop, refl, sym, ap, ◌∙◌, arith}
-use Rattle.std.specs.Prelude.{Some, Ok}
+use Rattle.std.proofs.Common.{◌≡◌, ℕ, ◌+◌, ◌-◌, ◌*◌, ◌<◌, ◌≤◌, List, ◌++◌, length, take, drop, refl, sym, ap, subst, ◌∙◌, arith}
+use Rattle.std.specs.Prelude.{Some, Ok, IsOkAnd, Result}
 use Rattle.std.specs.Int.{to_le_bytes, from_le_bytes, w32}
 use Rattle.std.proofs.Math.Seq.{take-append_seam, drop-append_seam}
 use Rattle.std.proofs.Math.ListN.{length-append}
@@ -17,17 +17,19 @@ use Rattle.rs01_layers.proofs.BlockLemmas.{length-column, length-layer}
 use Rattle.rs01_sums.specs.Crc.{crc}
 use Rattle.rs01_sums.proofs.CrcLemmas.{crc-lt}
 use Rattle.rs01_ecchead.specs.EccFile.{body, ecc_file, head_fields, layer_parity, mark_sector_of, parity_bytes, sum_bytes}
-use Rattle.rs01_ecchead.specs.Header.{AreFields, Fields, end_bytes, front_bytes, head_bytes, head_of, number_bytes, part}
-use Rattle.rs01_ecchead.specs.Opened.{opened}
+use Rattle.rs01_ecchead.specs.Header.{AreFields, Fields, end_bytes, front_bytes, head_bytes, head_of, number_bytes}
+use Rattle.rs01_ecchead.specs.Opened.{Opened, opened, opened_by}
+use Rattle.rs01_ecchead.specs.declared.opened.EccRefusal.{EccRefusal}
 use Rattle.rs01_ecchead.specs.Recorded.{parity_in, sum_in, sums_in}
-use Rattle.rs01_ecchead.specs.ReadAgain.{AreReadAgain}
-use Rattle.rs01_ecchead.proofs.Flats.{flat_at, length-flat}
+use Rattle.rs01_ecchead.specs.ReadAgain.{AreReadAgain, IsOfImage}
 use Rattle.rs01_ecchead.proofs.OpenedLemmas.{all_right}
-use Rattle.rs01_ecchead.proofs.Parts.{inside, skip}
-use Rattle.rs01_ecchead.proofs.Ranges.{map-range_with_len_moved}
 use Rattle.rs01_ecchead.proofs.RecordedSums.{part-part}
 use Rattle.rs01_ecchead.proofs.RoundTrip.{reads_back}
-use Rattle.rs01_ecchead.proofs.Zeros.{length-zeros}
+use Rattle.rs01_lists.specs.Bytes.{part}
+use Rattle.rs01_lists.proofs.Flats.{flat_at, length-flat}
+use Rattle.rs01_lists.proofs.Parts.{inside, skip}
+use Rattle.rs01_lists.proofs.Ranges.{map-range_with_len_moved}
+use Rattle.rs01_lists.proofs.Padding.{length-zeros}
 
 abbrev N : List ℕ → ℕ
 N image = sectors_of (length image)
@@ -124,7 +126,7 @@ parity_again image r l b some few least most below codeword =
     ∙ ap (λ xs. part xs (r * b) r) (layer_parity_again image r l some few least most below)
     ∙ flat_at (λ k. encode (column (layer image r l) k)) r 2048 b (λ k h. length-parity image r l k most) codeword
 
-opened_again : (image : List ℕ) (r : ℕ) → 1 ≤ length image → N image ≤ 16777215 → 8 ≤ r → r ≤ 100 → opened (ecc_file image r) ≡ Ok (head_fields image r)
+opened_again : (image : List ℕ) (r : ℕ) → 1 ≤ length image → N image ≤ 16777215 → 8 ≤ r → r ≤ 100 → opened (ecc_file image r) ≡ Ok (opened_by (head_fields image r) (ecc_file image r))
 unfolding ecc_file head_fields
 opened_again image r some few least most =
     let f = are_fields image r some few least most in
@@ -139,13 +141,19 @@ opened_again image r some few least most =
     all_right (Some file) (length file) fields (md5 (body image r)) refl (omega (arith, size)) (ap head_of front ∙ reads_back fields f) size
     (ap md5 (sym rest)) ((bytes_eq-Decides (md5 (body image r)) (md5 (body image r))).1 refl)
 
-pub read_again : AreReadAgain
-unfolding sums_in
-read_again image r some few least most =
+-- what the file says
+said : (image : List ℕ) (r : ℕ) → 1 ≤ length image → N image ≤ 16777215 → 8 ≤ r → r ≤ 100
+    → IsOfImage image r (opened_by (head_fields image r) (ecc_file image r))
+unfolding sums_in head_fields
+said image r some few least most =
     let f = are_fields image r some few least most in
     let head : length (head_bytes (head_fields image r)) ≡ 4096 = length-head (head_fields image r) f.fingerprint f.image_sum f.body_sum in
     record {
-      fields = opened_again image r some few least most;
+      fields = refl;
       sums = map-range_with_len_moved (sum_in (ecc_file image r)) (λ s. crc (sector image s)) 0 (N image) (λ s h. ap (sum_in (ecc_file image r)) (let e : 0 + s ≡ s = omega arith in e) ∙ sum_again image r s head h);
       parity = λ l b below codeword. parity_again image r l b some few least most below codeword;
     }
+
+pub read_again : AreReadAgain
+read_again image r some few least most =
+    subst (λ (answer : Result Opened EccRefusal). IsOkAnd answer (IsOfImage image r)) (sym (opened_again image r some few least most)) (said image r some few least most)

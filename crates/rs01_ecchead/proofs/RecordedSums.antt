@@ -3,9 +3,10 @@ use Rattle.std.proofs.Common.{◌≡◌, ℕ, ◌+◌, ◌-◌, ◌*◌, ◌≤�
 use Rattle.std.specs.List.{range_with_len}
 use Rattle.std.specs.Int.{from_le_bytes, w32}
 use Rattle.std.proofs.lemmas.List.{drop-take, drop-drop, take-take, map-append}
-use Rattle.rs01_ecchead.specs.Header.{part, number_at}
+use Rattle.rs01_ecchead.specs.Header.{number_at}
 use Rattle.rs01_ecchead.specs.Recorded.{sum_in, sums_in}
-use Rattle.rs01_ecchead.proofs.Ranges.{range_with_len-append, map-range_with_len_moved}
+use Rattle.rs01_lists.specs.Bytes.{part}
+use Rattle.rs01_lists.proofs.Ranges.{map-range_with_len_moved, range_with_len-append}
 
 -- a part of a part
 pub part-part : (file : List ℕ) (at len from n : ℕ) → from + n ≤ len → part (part file at len) from n ≡ part file (at + from) n

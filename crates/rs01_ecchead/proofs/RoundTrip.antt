@@ -3,12 +3,13 @@ use Rattle.std.proofs.Common.{◌≡◌, ℕ, ◌+◌, ◌-◌, ◌^◌, ◌<◌
 use Rattle.std.specs.Prelude.{codes, Ok, if◌then◌else◌, ◌==◌}
 use Rattle.std.specs.Int.{to_le_bytes, from_le_bytes, w32, w64}
 use Rattle.std.proofs.lemmas.Nat.{from_le_bytes-to_le_bytes_4, from_le_bytes-to_le_bytes_8}
-use Rattle.rs01_ecchead.specs.Header.{Fields, zeros, part, number_at, wide_number_at, head_bytes, front_bytes, number_bytes, end_bytes, fields_at, head_of, AreFields, ReadsBack}
+use Rattle.rs01_ecchead.specs.Header.{Fields, number_at, wide_number_at, head_bytes, front_bytes, number_bytes, end_bytes, fields_at, head_of, AreFields, ReadsBack}
 use Rattle.std.specs.Str.{bytes_eq}
 use Rattle.std.proofs.lemmas.Bool.Decides.{nat_tests}
 use Rattle.rs01_ecchead.proofs.Accepted.{accepted}
-use Rattle.rs01_ecchead.proofs.Zeros.{length-zeros}
-use Rattle.rs01_ecchead.proofs.Parts.{first, skip}
+use Rattle.rs01_lists.specs.Bytes.{part, zeros}
+use Rattle.rs01_lists.proofs.Padding.{length-zeros}
+use Rattle.rs01_lists.proofs.Parts.{first, skip}
 
 -- the 13 pieces of a header, one after the other
 pieces : (fl fp im bs ns ds rs cs vs ms ls : List ℕ) → List ℕ

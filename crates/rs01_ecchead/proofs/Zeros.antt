@@ -1,12 +1,14 @@
 -- Bytes put in front of zeros.
-use Rattle.std.proofs.Common.{◌≡◌, ℕ, zero, suc, ◌+◌, ◌-◌, List, ◌∷◌, ◌++◌, length, take, drop, replicate, refl, sym, ap, ◌∙◌, arith}
+use Rattle.std.proofs.Common.{◌≡◌, ℕ, ◌+◌, ◌-◌, List, ◌++◌, length, take, drop, refl, sym, ap, ◌∙◌}
 use Rattle.std.proofs.Math.Seq.{take-append_seam, drop-append-add}
-use Rattle.std.proofs.lemmas.List.{drop-replicate, length-replicate}
+use Rattle.std.proofs.lemmas.List.{drop-replicate}
 use Rattle.std.proofs.Math.ListN.{length-append}
 use Rattle.std.proofs.Common.{[], append_assoc}
 use Rattle.std.specs.Prelude.{codes}
 use Rattle.std.specs.Int.{to_le_bytes, w32, w64}
-use Rattle.rs01_ecchead.specs.Header.{zeros, Puts, Fields, head_bytes, front_bytes, number_bytes, end_bytes}
+use Rattle.rs01_ecchead.specs.Header.{Puts, Fields, head_bytes, front_bytes, number_bytes, end_bytes}
+use Rattle.rs01_lists.specs.Bytes.{zeros}
+use Rattle.rs01_lists.proofs.Padding.{length-zeros, zeros-add}
 
 -- bytes over the zeros behind a list
 pub over_zeros : (before bytes xs : List ℕ) (at left : ℕ) → length before ≡ at → xs ≡ before ++ zeros left
@@ -15,16 +17,6 @@ unfolding zeros
 over_zeros before bytes xs at left e z =
     (λ i. take (sym e i) (z i) ++ bytes ++ drop (sym e i + length bytes) (z i))
     ∙ (λ i. take-append_seam before (zeros left) i ++ bytes ++ (drop-append-add before (zeros left) (length bytes) ∙ drop-replicate (length bytes) left 0) i)
-
-pub length-zeros : (n : ℕ) → length (zeros n) ≡ n
-unfolding zeros
-length-zeros n = length-replicate n 0
-
--- zeros and more zeros
-pub zeros-add : (m n : ℕ) → zeros (m + n) ≡ zeros m ++ zeros n
-unfolding zeros
-zeros-add zero n = ap (λ k. replicate k 0) (let e : 0 + n ≡ n = omega arith in e)
-zeros-add (suc m) n = ap (λ k. replicate k 0) (let e : suc m + n ≡ suc (m + n) = omega arith in e) ∙ ap (λ xs. 0 ∷ xs) (zeros-add m n)
 
 long : (xs ys : List ℕ) (m n : ℕ) → length xs ≡ m → length ys ≡ n → length (xs ++ ys) ≡ m + n
 long xs ys m n e f = length-append xs ys ∙ (λ i. e i + f i)
@@ -77,10 +69,6 @@ header_is texts flags fp im bs ns ds rs cs vs ms ls o0 o1 o2 o3 o4 o5 o6 o7 o8 o
     let n12 : length (b11 ++ zeros 20) ≡ 116 = long b11 (zeros 20) 96 20 n11 (length-zeros 20) in
     let e12 : o12 ≡ ((b11 ++ zeros 20) ++ ls) ++ zeros 3976 = more 116 3980 4 (b11 ++ zeros 20) ls o11 o12 p12 n12 l12 gap in
     e12 ∙ simp append_assoc
-
-pub filled : (xs : List ℕ) (m n : ℕ) → m ≡ n → xs ≡ replicate m 0 → xs ≡ zeros n
-unfolding zeros
-filled xs m n e f = f ∙ ap (λ k. replicate k 0) e
 
 -- the pieces of a header are its bytes
 pub pieces_are : (f : Fields) (xs : List ℕ)

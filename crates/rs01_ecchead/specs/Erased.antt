@@ -1,14 +1,13 @@
 -- Which sectors of an image file are erased, judged by what is known of the protected image. The image file is the
 -- list y, and s is the number of a sector.
-use Rattle.std.specs.Prelude.{ℕ, ◌≡◌, ◌+◌, ◌-◌, ◌*◌, ◌==◌, ◌&&◌, ◌||◌, Bool, false, not, nat_lt, List, length, filter, count_by, Option, Some}
+use Rattle.std.specs.Prelude.{ℕ, ◌≡◌, ◌+◌, ◌-◌, ◌*◌, ◌==◌, ◌&&◌, ◌||◌, Bool, false, not, nat_lt, List, length, filter, count_by, map, Option, Some}
 use Rattle.std.specs.List.{range_with_len}
 use Rattle.std.specs.Str.{bytes_eq}
 use Rattle.rs01_layers.specs.Sectors.{block, length_of}
-use Rattle.rs01_layers.specs.Layout.{layer_of}
+use Rattle.rs01_layers.specs.Layout.{layer_of, layers_of}
 use Rattle.rs01_sums.specs.Marker.{marker}
 use Rattle.rs01_sums.specs.Usable.{is_usable}
-use Rattle.rs01_ecchead.specs.Header.{Fields}
-use Rattle.rs01_ecchead.specs.Recorded.{sums_in}
+use Rattle.rs01_ecchead.specs.Opened.{Opened}
 use Rattle.rs01_ecchead.specs.declared.opened.Ecc.{Ecc}
 
 -- what is known of an image: its number of sectors, the bytes of the last one and, where they are recorded, the
@@ -18,11 +17,10 @@ pub record Known : Type 0 where
   pub last_bytes : ℕ
   pub sums : Option (List ℕ)
 
--- what an error correction file tells whose header has these fields
-abbrev pub known_by : Fields → List ℕ → Known
-known_by fields file = record { sectors = fields.sectors; last_bytes = fields.last_bytes; sums = Some (sums_in file fields.sectors) }
+-- what an opened error correction file tells of its image
+abbrev pub known_by : Opened → Known
+known_by opened = record { sectors = opened.fields.sectors; last_bytes = opened.fields.last_bytes; sums = Some opened.sums }
 
--- what an opened error correction file tells
 abbrev pub known_of : Ecc → Known
 known_of ecc = record { sectors = ecc.head.sectors; last_bytes = ecc.head.last_bytes; sums = Some ecc.sums.list }
 
@@ -57,9 +55,13 @@ missing_sectors known y = filter (is_missing known y) (range_with_len 0 known.se
 unfoldable pub altered_sectors : Known → List ℕ → List ℕ
 altered_sectors known y = filter (is_altered known y) (range_with_len 0 known.sectors)
 
--- how many sectors of layer l are erased, where codewords have r parity bytes
-unfoldable pub erased_in : Known → List ℕ → ℕ → ℕ → ℕ
-erased_in known y r l = count_by (λ s. is_erased known y s && (layer_of known.sectors r s == l)) (range_with_len 0 known.sectors)
+-- how many of n sectors are gone and lie in layer l, where codewords have r parity bytes
+unfoldable pub count_in : ℕ → ℕ → (ℕ → Bool) → ℕ → ℕ
+count_in n r gone l = count_by (λ s. gone s && (layer_of n r s == l)) (range_with_len 0 n)
+
+-- the same of each layer
+unfoldable pub counts_of : ℕ → ℕ → (ℕ → Bool) → List ℕ
+counts_of n r gone = map (count_in n r gone) (range_with_len 0 (layers_of n r))
 
 -- a sector is erased exactly where it is missing or altered, and it is never both
 abbrev pub ErasedIsMissingOrAltered : Type 0

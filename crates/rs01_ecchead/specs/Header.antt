@@ -1,7 +1,8 @@
 -- The header of an error correction file: 4096 bytes in which numbers stand with their lowest byte first.
-use Rattle.std.specs.Prelude.{ℕ, ◌≡◌, ◌<◌, ◌≤◌, ◌^◌, length, ◌+◌, ◌-◌, ◌==◌, List, ◌++◌, take, drop, replicate, codes, Bool, not, ◌||◌, nat_lt, if◌then◌else◌, Result, Ok, Err}
+use Rattle.std.specs.Prelude.{ℕ, ◌≡◌, ◌<◌, ◌≤◌, ◌^◌, length, ◌+◌, ◌-◌, ◌==◌, List, ◌++◌, codes, Bool, not, ◌||◌, nat_lt, if◌then◌else◌, Result, Ok, Err}
 use Rattle.std.specs.Int.{to_le_bytes, from_le_bytes, w32, w64}
 use Rattle.std.specs.Str.{bytes_eq}
+use Rattle.rs01_lists.specs.Bytes.{part, zeros}
 use Rattle.rs01_ecchead.specs.declared.head.HeadRefusal.{HeadRefusal}
 use Rattle.rs01_ecchead.specs.declared.head.HeadRefusal.TheVariants.{Cookie, Method, Version, Sectors, Parity, LastBytes}
 
@@ -34,9 +35,6 @@ pub record AreFields (f : Fields) : Type 0 where
   pub some_last : 1 ≤ f.last_bytes
   pub last_fits : f.last_bytes ≤ 2048
 
-unfoldable pub zeros : ℕ → List ℕ
-zeros n = replicate n 0
-
 -- bytes put at a place: where all from there on was zeros, they come behind what stands before
 abbrev pub Puts : ℕ → List ℕ → List ℕ → List ℕ → Type 0
 Puts at bytes old new = (before : List ℕ) (left : ℕ) → length before ≡ at → old ≡ before ++ zeros left → new ≡ (before ++ bytes) ++ zeros (left - length bytes)
@@ -58,10 +56,6 @@ end_bytes f = zeros 20 ++ (to_le_bytes w32 f.last_bytes ++ zeros 3976)
 -- the 4096 bytes of a header
 unfoldable pub head_bytes : Fields → List ℕ
 head_bytes f = front_bytes f ++ (number_bytes f ++ end_bytes f)
-
--- n bytes from a place on
-abbrev pub part : List ℕ → ℕ → ℕ → List ℕ
-part bytes from n = take n (drop from bytes)
 
 -- the number in the 4 bytes from a place on
 abbrev pub number_at : List ℕ → ℕ → ℕ

@@ -3,5 +3,11 @@ pub mod Head
 pub mod EccFile
 pub mod Recorded
 pub mod Opened
+pub mod Pieces
+pub mod Opening
 pub mod Erased
+pub mod Condition
+pub mod Runs
+pub mod Shown
+pub mod Walked
 pub mod ReadAgain

@@ -1,8 +1,13 @@
 -- What a file records behind its header.
-use Rattle.std.specs.Prelude.{ℕ, ◌+◌, ◌*◌, List, map}
+use Rattle.std.specs.Prelude.{ℕ, ◌+◌, ◌*◌, ◌/◌, List, length, map}
 use Rattle.std.specs.List.{range_with_len}
 use Rattle.rs01_layers.specs.Layout.{parity_offset}
-use Rattle.rs01_ecchead.specs.Header.{number_at, part}
+use Rattle.rs01_ecchead.specs.Header.{number_at}
+use Rattle.rs01_lists.specs.Bytes.{part}
+
+-- the numbers of a piece, 4 bytes each
+abbrev pub numbers_in : List ℕ → List ℕ
+numbers_in piece = map (λ j. number_at piece (4 * j)) (range_with_len 0 (length piece / 4))
 
 -- the recorded checksum of a sector
 abbrev pub sum_in : List ℕ → ℕ → ℕ

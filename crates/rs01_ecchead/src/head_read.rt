@@ -1,7 +1,8 @@
 //! Reading a header.
 ghost use Rattle.std.specs.Prelude.{◌≡◌, ◌+◌, ◌≤◌, ◌==◌, if◌then◌else◌, length, MatchResult, Ok, Err};
 ghost use Rattle.std.specs.Str.{bytes_eq};
-ghost use Rattle.rs01_ecchead.specs.Header.{head_of, number_at, wide_number_at, part};
+ghost use Rattle.rs01_ecchead.specs.Header.{head_of, number_at, wide_number_at};
+ghost use Rattle.rs01_lists.specs.Bytes.{part};
 ghost use Rattle.rs01_ecchead.specs.Head.{fields_of};
 
 use crate::head::{Head, HeadRefusal};
@@ -64,7 +65,8 @@ fn full_or(last_bytes: u32) -> u32
 /// reserved bytes may be anything.
 #[tactic(auto, unfolding(crate::specs::Header::head_of, crate::specs::Header::judged))]
 pub fn read_head(from: &[u8; 4096]) -> Result<Head, HeadRefusal>
-    ensures { MatchResult result (λ head. head_of from.now ≡ Ok (fields_of head)) (λ why. head_of from.now ≡ Err why) }
+    ensures { MatchResult result
+        (λ head. head_of from.now ≡ Ok (fields_of head)) (λ why. head_of from.now ≡ Err why) }
 {
     let sectors = wide_number(from, 68);
     let data_ = number(from, 76);

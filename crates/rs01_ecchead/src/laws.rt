@@ -1,4 +1,5 @@
-//! What holds of headers, of whole files and of erased sectors.
+//! What holds of headers, of whole files, of erased sectors and of judgements.
+ghost use Rattle.rs01_ecchead.specs.Condition.{IsJudgedByTheFile};
 ghost use Rattle.rs01_ecchead.specs.Erased.{ErasedIsMissingOrAltered, MissingIsNotAltered};
 ghost use Rattle.rs01_ecchead.specs.Header.{ReadsBack};
 ghost use Rattle.rs01_ecchead.specs.ReadAgain.{AreReadAgain};
@@ -12,6 +13,11 @@ pub fn headers_read_back()
 pub fn erased_sectors_are_missing_or_altered()
     ensures either { ErasedIsMissingOrAltered }
     ensures not_both { MissingIsNotAltered }
+{}
+
+/// A sector of an image file is judged as missing or altered exactly where it is, and as sound else.
+pub fn sectors_are_judged_by_their_file()
+    ensures { IsJudgedByTheFile }
 {}
 
 /// The error correction file of an image of 1 byte to 16,777,215 sectors, with 8 to 100 parity bytes a codeword, is

@@ -3,7 +3,9 @@ ghost use Rattle.std.specs.Prelude.{◌≡◌, length};
 
 use crate::head::{Head, HeadRefusal};
 use rs01_layers::{Extent, Shape};
+use rs01_outside::Failed;
 use rs01_sums::Sums;
+use std::alloc::AllocError;
 use thiserror::Error;
 
 /// One of the two files that belong together.
@@ -37,6 +39,36 @@ pub enum EccRefusal {
     /// Memory ran out.
     #[error("memory ran out")]
     OutOfMemory,
+}
+
+impl From<Failed> for EccRefusal {
+    ghost use Rattle.rs01_ecchead.specs.declared.opened.EccRefusal.TheVariants.{ReadFault};
+
+    ghost from_gives = { λ _ why. why ≡ ReadFault };
+
+    fn from(_failed: Failed) -> EccRefusal {
+        EccRefusal::ReadFault
+    }
+}
+
+impl From<AllocError> for EccRefusal {
+    ghost use Rattle.rs01_ecchead.specs.declared.opened.EccRefusal.TheVariants.{OutOfMemory};
+
+    ghost from_gives = { λ _ why. why ≡ OutOfMemory };
+
+    fn from(_lack: AllocError) -> EccRefusal {
+        EccRefusal::OutOfMemory
+    }
+}
+
+impl From<HeadRefusal> for EccRefusal {
+    ghost use Rattle.rs01_ecchead.specs.declared.opened.EccRefusal.TheVariants.{Head};
+
+    ghost from_gives = { λ of why. why ≡ Head of };
+
+    fn from(why: HeadRefusal) -> EccRefusal {
+        EccRefusal::Head(why)
+    }
 }
 
 /// An opened error correction file: its header, and the recorded checksum of each sector.

@@ -1,11 +1,11 @@
 //! Reading the recorded checksums.
-ghost use Rattle.std.specs.Prelude.{◌≡◌, ◌+◌, ◌*◌, ◌/◌, ◌%◌, ◌<◌, ◌≤◌, ◌++◌, [], IsTrue, List, OnOk, length, map, ℕ};
+ghost use Rattle.std.specs.Prelude.{◌≡◌, ◌+◌, ◌*◌, ◌/◌, ◌%◌, ◌<◌, ◌≤◌, ◌++◌, [], List, OnOk, is_err, length, map, ℕ};
 ghost use Rattle.std.specs.List.{range_with_len};
 ghost use Rattle.md5.specs.Md5.{Holds};
-ghost use Rattle.rs01_outside.specs.Causes.{HasCause};
-ghost use Rattle.rs01_outside.specs.Files.{bytes_of};
-ghost use Rattle.rs01_ecchead.specs.Header.{number_at, part};
-ghost use Rattle.rs01_ecchead.specs.Recorded.{sums_in};
+ghost use Rattle.rs01_lists.specs.Bytes.{part};
+ghost use Rattle.rs01_outside.specs.DeskState.{InFile, OnlyReads};
+ghost use Rattle.rs01_ecchead.specs.Header.{number_at};
+ghost use Rattle.rs01_ecchead.specs.Recorded.{numbers_in, sums_in};
 
 use crate::head_read::number;
 use crate::pieces::{add_piece, piece_len};
@@ -16,7 +16,7 @@ use rs01_sums::Sums;
 // Puts the numbers of a piece, 4 bytes each, behind the checksums that are there.
 fn push_sums(piece: &[u8], sums: &mut Sums)
     requires room { length sums.old.list + length piece.now / 4 ≤ sums.old.room }
-    ensures list { sums.new.list ≡ sums.old.list ++ map (λ j. number_at piece.now (4 * j)) (range_with_len 0 (length piece.now / 4)) }
+    ensures list { sums.new.list ≡ sums.old.list ++ numbers_in piece.now }
     ensures room { sums.new.room ≡ sums.old.room }
 {
     for j in 0..piece.len() / 4 {
@@ -37,13 +37,13 @@ pub fn add_sums<D: Desk>(
     requires fours { length buffer.old % 4 ≡ 0 }
     requires empty { sums.old.list ≡ [] }
     requires room { sums.old.room ≡ count }
-    ensures tells { D.tells desk.new ≡ D.tells desk.old }
-    ensures unchanged { IsTrue (D.tells desk.old) → D.files desk.new ≡ D.files desk.old }
-    ensures held { IsTrue (D.tells desk.old) → 4096 + 4 * count ≤ length (bytes_of (D.files desk.old) name.now) → OnOk result ((m : List ℕ) → Holds hasher.old m → Holds hasher.new (m ++ part (bytes_of (D.files desk.old) name.now) 4096 (4 * count))) }
-    ensures list { IsTrue (D.tells desk.old) → 4096 + 4 * count ≤ length (bytes_of (D.files desk.old) name.now) → OnOk result (sums.new.list ≡ sums_in (bytes_of (D.files desk.old) name.now) count) }
+    ensures reads { OnlyReads (D.state desk.old) (D.state desk.new) (is_err result) }
+    ensures held { InFile (D.state desk.old) name.now
+        (λ file. 4096 + 4 * count ≤ length file → OnOk result
+        ((m : List ℕ) → Holds hasher.old m → Holds hasher.new (m ++ part file 4096 (4 * count)))) }
+    ensures list { InFile (D.state desk.old) name.now (λ file. 4096 + 4 * count ≤ length file
+        → OnOk result (sums.new.list ≡ sums_in file count)) }
     ensures len { OnOk result (length sums.new.list ≡ count) }
-    ensures cause { HasCause (D.read_faults desk.old) (D.read_faults desk.new) result }
-    ensures writes { D.write_faults desk.new ≡ D.write_faults desk.old }
 {
     let to = 4096 + 4 * u64::from(count);
     let mut at = 4096u64;

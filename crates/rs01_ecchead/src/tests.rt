@@ -1,7 +1,9 @@
-//! Headers byte by byte.
+//! Headers byte by byte, and judgements of sectors.
 use crate::laws::headers_read_back;
-use crate::{Head, HeadRefusal, read_head, write_head};
+use crate::{Condition, Head, HeadRefusal, judge, read_head, write_head};
+use rs01_sums::{Sums, marker};
 use std::process::Abort;
+use std::test::Fail;
 
 // The texts at the head of the file, and all numbers that aren't 0, for an image of 3 bytes.
 const NUMBERS: [(usize, &[u8]); 7] = [
@@ -116,4 +118,25 @@ fn a_last_sector_of_no_bytes_is_full(rt: HostRuntime) {
         };
         assert!(rt; head.last_bytes == want && head.creator == 900, "at {want}");
     }
+}
+
+#[test]
+fn sectors_as_they_are_found(rt: HostRuntime) -> Result<(), Fail> {
+    let zeros = [0u8; 2048];
+    let mut marked = [0u8; 2048];
+    marker(0, &mut marked);
+    let mut sums = Sums::new(rt.alloc(), 1)?;
+    sums.push_reserved(0xf1e8_ba9e);
+    if sums.len() > 0 {
+        for (there, block, plain, summed) in [
+            (true, &zeros, Condition::Sound, Condition::Sound),
+            (true, &[1u8; 2048], Condition::Sound, Condition::Altered),
+            (true, &marked, Condition::Missing, Condition::Missing),
+            (false, &zeros, Condition::Missing, Condition::Missing),
+        ] {
+            assert!(rt; judge(there, None, 0, block) == plain);
+            assert!(rt; judge(there, Some(&sums), 0, block) == summed);
+        }
+    }
+    Ok(())
 }

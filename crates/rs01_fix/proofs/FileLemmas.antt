@@ -1,33 +1,34 @@
 -- What is answered, from what was found of the two files.
 use Rattle.std.proofs.Common.{◌≡◌, ℕ, List, [], length, refl, sym, ap, subst, ◌∙◌, arith, inl, Bool, true, false, drop, take}
 use Rattle.std.specs.Prelude.{Option, Some, None, Result, Ok, Err, IsOkAnd, IsOk, IsSomeAnd, nat_lt, not, ◌==◌, cond}
-use Rattle.std.specs.Option.{option_map, unwrap_or}
+use Rattle.std.specs.Option.{unwrap_or}
 use Rattle.std.specs.Str.{bytes_eq}
 use Rattle.md5.specs.Md5.{md5}
 use Rattle.std.proofs.lemmas.Bool.{eqb-true}
 use Rattle.rs01_layers.specs.Layout.{file_size}
-use Rattle.rs01_outside.specs.Files.{Files, Becomes, SameElsewhere}
+use Rattle.rs01_outside.specs.Files.{Files, SameElsewhere}
 use Rattle.rs01_ecchead.specs.Header.{Fields, head_of}
 use Rattle.rs01_ecchead.specs.declared.head.HeadRefusal.{HeadRefusal}
-use Rattle.rs01_ecchead.specs.Opened.{IsOfFile, opened, opened_file, opened_with}
-use Rattle.rs01_ecchead.specs.Erased.{Known, known_by}
+use Rattle.rs01_ecchead.specs.Opened.{IsOfFile, Opened, opened, opened_as, opened_by, opened_file, opened_with}
 use Rattle.rs01_ecchead.specs.declared.opened.EccRefusal.{EccRefusal}
 use Rattle.rs01_ecchead.specs.declared.opened.EccRefusal.TheVariants as ecc
 use Rattle.rs01_ecchead.specs.declared.opened.Which.TheVariants.{Image}
-use Rattle.rs01_report.specs.declared.fixes.FixReport.{FixReport}
+use Rattle.rs01_report.specs.declared.reports.FixReport.{FixReport}
+use Rattle.rs01_ecchead.specs.declared.opened.Ecc.{Ecc}
+use Rattle.rs01_repair.specs.declared.held.Held.{Held}
+use Rattle.rs01_fix.specs.Steps.{IsHeld}
 use Rattle.rs01_fix.specs.Between.{IsBetween}
-use Rattle.rs01_fix.specs.Inputs.{layer_answer}
-use Rattle.rs01_fix.specs.Progress.{IsOnTheWay}
-use Rattle.rs01_fix.specs.Repair.{fixed_by, report_by}
-use Rattle.rs01_fix.specs.Answer.{IsOfFiles, MayStand, Repaired, answer_with, fix_answer, refusal_of, repaired}
+use Rattle.rs01_fix.specs.Repair.{fixed, report_of}
+use Rattle.rs01_fix.specs.Answer.{MayStand, Repaired, answer_with, fix_answer, refusal_of, repaired}
+use Rattle.rs01_fix.specs.Outcome.{Fixes, IsOfFiles, IsOfRepair, Repairs}
 use Rattle.rs01_fix.specs.declared.refusal.FixRefusal.{FixRefusal}
-use Rattle.rs01_fix.specs.declared.refusal.FixRefusal.TheVariants.{NoFile}
+use Rattle.rs01_fix.specs.declared.refusal.FixRefusal.TheVariants.{NoFile, Head, Size, Body, ReadFault, WriteFault, OutOfMemory}
 
 refused_with : (file image : Option (List ℕ)) (cut : Bool) (why : EccRefusal) (told : FixRefusal) → told ≡ refusal_of why → opened_file file ≡ Err why
     → fix_answer file image cut ≡ Err told
 unfolding answer_with
 refused_with file image cut why told e opened =
-    ap (λ (o : Result Fields EccRefusal). answer_with o (unwrap_or file []) image cut) opened ∙ ap (λ (r : FixRefusal). Err r) (sym e)
+    ap (λ (o : Result Opened EccRefusal). answer_with o image cut) opened ∙ ap (λ (r : FixRefusal). Err r) (sym e)
 
 -- the error correction file isn't opened
 pub by_ecc : (file image : Option (List ℕ)) (cut : Bool) (why : EccRefusal) (told : FixRefusal) → told ≡ refusal_of why → IsOfFiles told
@@ -40,67 +41,40 @@ by_ecc file image cut ecc.ReadFault told e of h = absurd (subst IsOfFiles e of)
 by_ecc file image cut ecc.OutOfMemory told e of h = absurd (subst IsOfFiles e of)
 
 -- it is, and the image isn't there
-pub by_no_image : (file image : Option (List ℕ)) (cut : Bool) (fields : Fields) → opened_file file ≡ Ok fields → None ≡ option_map length image
-    → fix_answer file image cut ≡ Err (NoFile Image)
+pub by_no_image : (file image : Option (List ℕ)) (cut : Bool) (c : Opened) → opened_file file ≡ Ok c → image ≡ None → fix_answer file image cut ≡ Err (NoFile Image)
 unfolding answer_with
-by_no_image file None cut fields opened e = ap (λ (o : Result Fields EccRefusal). answer_with o (unwrap_or file []) None cut) opened
-by_no_image file (Some y) cut fields opened e = cc
+by_no_image file image cut c opened e = λ i. answer_with (opened i) (e i) cut
 
 -- both are there
-pub by_both : (file image : Option (List ℕ)) (cut : Bool) (fields : Fields) (y : List ℕ) → opened_file file ≡ Ok fields → image ≡ Some y
-    → fix_answer file image cut ≡ Ok (repaired fields (unwrap_or file []) y cut)
+pub by_both : (file image : Option (List ℕ)) (cut : Bool) (c : Opened) (y : List ℕ) → opened_file file ≡ Ok c → image ≡ Some y
+    → fix_answer file image cut ≡ Ok (repaired c y cut)
 unfolding answer_with
-by_both file image cut fields y opened there =
-    λ i. answer_with (opened i) (unwrap_or file []) (there i) cut
+by_both file image cut c y opened there = λ i. answer_with (opened i) (there i) cut
 
 -- an opened file is as long as its header asks for
-size_by_tests : (size body : Bool) (n want : ℕ) (have sum : List ℕ) (f g : Fields)
-    → cond (not size) (Err (ecc.Size n want)) (cond (not body) (Err (ecc.Body have sum)) (Ok g)) ≡ Ok f → (size ≡ true) × (g ≡ f)
-size_by_tests true true n want have sum f g e = (refl, (let h : g ≡ f = cc in h))
-size_by_tests true false n want have sum f g e = absurd (let h : ⊥ = cc in h)
-size_by_tests false body n want have sum f g e = absurd (let h : ⊥ = cc in h)
+size_by_tests : (size body : Bool) (n want : ℕ) (have sum : List ℕ) (c d : Opened)
+    → cond (not size) (Err (ecc.Size n want)) (cond (not body) (Err (ecc.Body have sum)) (Ok d)) ≡ Ok c → (size ≡ true) × (d ≡ c)
+size_by_tests true true n want have sum c d e = (refl, (let h : d ≡ c = cc in h))
+size_by_tests true false n want have sum c d e = absurd (let h : ⊥ = cc in h)
+size_by_tests false body n want have sum c d e = absurd (let h : ⊥ = cc in h)
 
-size_by_head : (h : Result Fields HeadRefusal) (file : List ℕ) (f : Fields) → opened_with h file ≡ Ok f → length file ≡ file_size f.sectors f.parity
+size_by_head : (h : Result Fields HeadRefusal) (file : List ℕ) (c : Opened) → opened_with h file ≡ Ok c → length file ≡ file_size c.fields.sectors c.fields.parity
 unfolding opened_with
-size_by_head (Err why) file f e = absurd (let h : ⊥ = cc in h)
-size_by_head (Ok g) file f e =
+size_by_head (Err why) file c e = absurd (let h : ⊥ = cc in h)
+size_by_head (Ok g) file c e =
     let both = size_by_tests (length file == file_size g.sectors g.parity) (bytes_eq (md5 (drop 4096 file)) g.body_sum) (length file) (file_size g.sectors g.parity)
-    (md5 (drop 4096 file)) g.body_sum f g e in
-    eqb-true (length file) (file_size g.sectors g.parity) both.0 ∙ (λ i. file_size (both.1 i).sectors (both.1 i).parity)
+    (md5 (drop 4096 file)) g.body_sum c (opened_by g file) e in
+    eqb-true (length file) (file_size g.sectors g.parity) both.0 ∙ (λ i. file_size (both.1 i).fields.sectors (both.1 i).fields.parity)
 
-size_by_len : (b : Bool) (n : ℕ) (r : Result Fields EccRefusal) (f : Fields) → cond b (Err (ecc.Size n 4096)) r ≡ Ok f → r ≡ Ok f
-size_by_len true n r f e = absurd (let h : ⊥ = cc in h)
-size_by_len false n r f e = e
+size_by_len : (b : Bool) (n : ℕ) (r : Result Opened EccRefusal) (c : Opened) → cond b (Err (ecc.Size n 4096)) r ≡ Ok c → r ≡ Ok c
+size_by_len true n r c e = absurd (let h : ⊥ = cc in h)
+size_by_len false n r c e = e
 
-pub opened_size : (o : Option (List ℕ)) (f : Fields) → opened_file o ≡ Ok f → length (unwrap_or o []) ≡ file_size f.sectors f.parity
+pub opened_size : (o : Option (List ℕ)) (c : Opened) → opened_file o ≡ Ok c → length (unwrap_or o []) ≡ file_size c.fields.sectors c.fields.parity
 unfolding opened
-opened_size None f e = absurd (let h : ⊥ = cc in h)
-opened_size (Some file) f e =
-    size_by_head (head_of (take 4096 file)) file f (size_by_len (nat_lt (length file) 4096) (length file) (opened_with (head_of (take 4096 file)) file) f e)
-
--- what is known of the repaired image
-pub repaired_file : (fields : Fields) (e y : List ℕ) (cut : Bool) (known : Known) → known ≡ known_by fields e
-    → fixed_by known y fields.parity (layer_answer known e y fields.parity) cut ≡ (repaired fields e y cut).file
-unfolding repaired
-repaired_file fields e y cut known k = λ i. fixed_by (k i) y fields.parity (layer_answer (k i) e y fields.parity) cut
-
-pub repaired_report : (fields : Fields) (e y : List ℕ) (cut : Bool) (known : Known) → known ≡ known_by fields e
-    → report_by known y fields.parity (layer_answer known e y fields.parity) cut ≡ (repaired fields e y cut).report
-unfolding repaired
-repaired_report fields e y cut known k = λ i. report_by (k i) y fields.parity (layer_answer (k i) e y fields.parity) cut
-
-pub file_done : (name file : List ℕ) (a : Result Repaired FixRefusal) (v : Repaired) (old new : Files) → a ≡ Ok v → file ≡ v.file → new name ≡ Some file
-    → SameElsewhere name old new → IsOkAnd a (λ (repaired : Repaired). Becomes name repaired.file old new)
-file_done name file a v old new e f there elsewhere =
-    subst (λ (a : Result Repaired FixRefusal). IsOkAnd a (λ (repaired : Repaired). Becomes name repaired.file old new)) (sym e)
-    (record { there = there ∙ ap Some f; elsewhere = elsewhere })
-
-pub report_done : (a : Result Repaired FixRefusal) (v : Repaired) (told : FixReport) → a ≡ Ok v → told ≡ v.report
-    → IsOkAnd a (λ (repaired : Repaired). told ≡ repaired.report)
-report_done a v told e f = subst (λ (a : Result Repaired FixRefusal). IsOkAnd a (λ (repaired : Repaired). told ≡ repaired.report)) (sym e) f
-
-pub is_ok_answer : (a : Result Repaired FixRefusal) (v : Repaired) → a ≡ Ok v → IsOk a
-is_ok_answer a v e = subst (λ (a : Result Repaired FixRefusal). IsOk a) (sym e) refl
+opened_size None c e = absurd (let h : ⊥ = cc in h)
+opened_size (Some file) c e =
+    size_by_head (head_of (take 4096 file)) file c (size_by_len (nat_lt (length file) 4096) (length file) (opened_with (head_of (take 4096 file)) file) c e)
 
 -- the file that wasn't changed may stand
 old_between : (y fixed : List ℕ) → IsBetween y fixed y
@@ -111,20 +85,90 @@ old_between y fixed = record {
   past = λ k inside l. absurd (omega arith);
 }
 
-stands_with : (o : Result Fields EccRefusal) (e : List ℕ) (image : Option (List ℕ)) (cut : Bool) → MayStand (answer_with o e image cut) image image
+stands_with : (o : Result Opened EccRefusal) (image : Option (List ℕ)) (cut : Bool) → MayStand (answer_with o image cut) image image
 unfolding answer_with
-stands_with (Err why) e image cut = refl
-stands_with (Ok fields) e None cut = refl
-stands_with (Ok fields) e (Some y) cut = old_between y (repaired fields e y cut).file
+stands_with (Err why) image cut = refl
+stands_with (Ok c) None cut = refl
+stands_with (Ok c) (Some y) cut = old_between y (repaired c y cut).file
 
-pub old_may_stand : (file image now : Option (List ℕ)) (cut : Bool) → now ≡ image → MayStand (fix_answer file image cut) image now
+old_may_stand : (file image now : Option (List ℕ)) (cut : Bool) → now ≡ image → MayStand (fix_answer file image cut) image now
 old_may_stand file image now cut e =
-    subst (λ (n : Option (List ℕ)). MayStand (fix_answer file image cut) image n) (sym e) (stands_with (opened_file file) (unwrap_or file []) image cut)
+    subst (λ (n : Option (List ℕ)). MayStand (fix_answer file image cut) image n) (sym e) (stands_with (opened_file file) image cut)
 
 -- one on the way may stand
-pub way_may_stand : (known : Known) (y e : List ℕ) (r : ℕ) (cut : Bool) (a : Result Repaired FixRefusal) (v : Repaired) (old new : Option (List ℕ)) → a ≡ Ok v
-    → fixed_by known y r (layer_answer known e y r) cut ≡ v.file → old ≡ Some y → IsOnTheWay known y r (layer_answer known e y r) cut new → MayStand a old new
-way_may_stand known y e r cut a v old new ok f there way =
+way_may_stand : (c : Opened) (y : List ℕ) (cut : Bool) (a : Result Repaired FixRefusal) (old new : Option (List ℕ)) → a ≡ Ok (repaired c y cut) → old ≡ Some y
+    → IsSomeAnd new (IsBetween y (fixed c y cut)) → MayStand a old new
+unfolding repaired
+way_may_stand c y cut a old new ok there way =
     subst (λ (a : Result Repaired FixRefusal). MayStand a old new) (sym ok)
-    (subst (λ (o : Option (List ℕ)). IsSomeAnd new (IsBetween (unwrap_or o []) v.file)) (sym there)
-    (subst (λ (file : List ℕ). IsSomeAnd new (IsBetween y file)) f way))
+    (subst (λ (o : Option (List ℕ)). IsSomeAnd new (IsBetween (unwrap_or o []) (fixed c y cut))) (sym there) way)
+
+of_repair : (why : FixRefusal) → IsOfRepair why → IsOfFiles why → ⊥
+of_repair (NoFile which) is of = is
+of_repair (Head why) is of = is
+of_repair (Size have want) is of = is
+of_repair (Body have want) is of = is
+of_repair ReadFault is of = of
+of_repair WriteFault is of = of
+of_repair OutOfMemory is of = of
+
+-- the ways that a repair ends: refused with no change, repaired, and ended underway
+pub ends_refused : (image ecc : List ℕ) (cut : Bool) (old new : Files) (result : Result FixReport FixRefusal) (why told : FixRefusal) → result ≡ Err told → told ≡ why
+    → (IsOfFiles why → fix_answer (old ecc) (old image) cut ≡ Err why) → new ≡ old → Fixes image ecc cut old new result
+ends_refused image ecc cut old new result why told e same refused unchanged =
+    subst (λ (r : Result FixReport FixRefusal). Fixes image ecc cut old new r) (sym (e ∙ ap (λ (w : FixRefusal). let r : Result FixReport FixRefusal = Err w in r) same))
+    (record {
+      refused = refused;
+      unchanged = λ of. unchanged;
+      left = old_may_stand (old ecc) (old image) (new image) cut (ap (λ (f : Files). f image) unchanged);
+    })
+
+pub ends_repaired : (image ecc : List ℕ) (cut : Bool) (old new : Files) (told : FixReport) (c : Opened) (y : List ℕ)
+    → fix_answer (old ecc) (old image) cut ≡ Ok (repaired c y cut) → new image ≡ Some (fixed c y cut) → told ≡ report_of c y cut → SameElsewhere image old new
+    → IsOkAnd (fix_answer (old ecc) (old image) cut) (Repairs image old new told)
+unfolding repaired
+ends_repaired image ecc cut old new told c y ok there report elsewhere =
+    subst (λ (a : Result Repaired FixRefusal). IsOkAnd a (Repairs image old new told)) (sym ok)
+    (record { file = record { there = there; elsewhere = elsewhere }; report = report })
+
+pub ends_underway : (image ecc : List ℕ) (cut : Bool) (old new : Files) (result : Result FixReport FixRefusal) (why told : FixRefusal) (c : Opened) (y : List ℕ)
+    → result ≡ Err told → told ≡ why → IsOfRepair why → fix_answer (old ecc) (old image) cut ≡ Ok (repaired c y cut) → old image ≡ Some y
+    → IsSomeAnd (new image) (IsBetween y (fixed c y cut)) → Fixes image ecc cut old new result
+ends_underway image ecc cut old new result why told c y e same of ok there way =
+    subst (λ (r : Result FixReport FixRefusal). Fixes image ecc cut old new r) (sym (e ∙ ap (λ (w : FixRefusal). let r : Result FixReport FixRefusal = Err w in r) same))
+    (record {
+      refused = λ is. absurd (of_repair why of is);
+      unchanged = λ is. absurd (of_repair why of is);
+      left = way_may_stand c y cut (fix_answer (old ecc) (old image) cut) (old image) (new image) ok there way;
+    })
+
+pub is_ok_answer : (a : Result Repaired FixRefusal) (v : Repaired) → a ≡ Ok v → IsOk a
+is_ok_answer a v e = subst (λ (a : Result Repaired FixRefusal). IsOk a) (sym e) refl
+
+-- the ways that holding an image ends: the error correction file isn't opened, the image isn't there, memory lacks, and
+-- it is held
+pub held_unopened : (ecc image : Option (List ℕ)) (result : Result Held FixRefusal) (why : EccRefusal) (told : FixRefusal) → result ≡ Err told → told ≡ refusal_of why
+    → (IsOfFile why → opened_file ecc ≡ Err why) → IsHeld ecc image result
+held_unopened ecc image result why told e same h =
+    subst (λ (r : Result Held FixRefusal). IsHeld ecc image r) (sym e) (λ cut of. by_ecc ecc image cut why told same of h)
+
+pub held_absent : (f0 f1 : Files) (ecc image : List ℕ) (result : Result Held FixRefusal) (c : Opened) (why told : FixRefusal) → result ≡ Err told → told ≡ why
+    → opened_file (f0 ecc) ≡ Ok c → f1 ≡ f0 → (IsOfFiles why → (f1 image ≡ None) × (why ≡ NoFile Image)) → IsHeld (f0 ecc) (f0 image) result
+held_absent f0 f1 ecc image result c why told e same opened still h =
+    subst (λ (r : Result Held FixRefusal). IsHeld (f0 ecc) (f0 image) r) (sym (e ∙ ap (λ (w : FixRefusal). let r : Result Held FixRefusal = Err w in r) same))
+    (λ cut of.
+    let none = h of in
+    by_no_image (f0 ecc) (f0 image) cut c opened (ap (λ (f : Files). f image) (sym still) ∙ none.0)
+    ∙ ap (λ (w : FixRefusal). let r : Result Repaired FixRefusal = Err w in r) (sym none.1))
+
+pub held_lacking : (ecc image : Option (List ℕ)) (result : Result Held FixRefusal) (told : FixRefusal) → result ≡ Err told → told ≡ OutOfMemory → IsHeld ecc image result
+held_lacking ecc image result told e same =
+    subst (λ (r : Result Held FixRefusal). IsHeld ecc image r) (sym (e ∙ ap (λ (w : FixRefusal). let r : Result Held FixRefusal = Err w in r) same)) (λ cut of. absurd of)
+
+pub held_whole : (f0 f1 : Files) (ecc image : List ℕ) (held : Held) (opened : Ecc) (bytes : List ℕ) → opened_file (f0 ecc) ≡ Ok (opened_as opened (unwrap_or (f0 ecc) []))
+    → f1 ≡ f0 → f1 image ≡ Some bytes → held.ecc ≡ opened → held.image.items ≡ bytes
+    → (opened_file (f0 ecc) ≡ Ok (opened_as held.ecc (unwrap_or (f0 ecc) []))) × (f0 image ≡ Some held.image.items)
+held_whole f0 f1 ecc image held opened bytes says still there own items = (
+  says ∙ (λ i. Ok (opened_as (sym own i) (unwrap_or (f0 ecc) []))),
+  ap (λ (f : Files). f image) (sym still) ∙ there ∙ ap Some (sym items),
+)

@@ -1,41 +1,41 @@
 -- The fixed file, sector by sector.
 use Rattle.std.proofs.Common.{◌≡◌, ℕ, zero, suc, ◌+◌, ◌-◌, ◌*◌, ◌<◌, ◌≤◌, List, [], ◌++◌, length, take, drop, get_or, refl, sym, ap, ◌∙◌, arith, append-nil, ⊎_elim, Bool, true, false, cond, eqb}
-use Rattle.std.specs.Prelude.{max, nat_lt, ◌&&◌}
+use Rattle.std.specs.Prelude.{max, ◌&&◌, is_some, Option, Some, None}
+use Rattle.std.specs.Option.{unwrap_or}
 use Rattle.std.specs.List.{flat_map, range_with_len}
-use Rattle.std.proofs.lemmas.Bool.{cases_Bool, cases_lt, lt-ltb, eq-eqb, ne_eqb, cond-true, cond-false}
+use Rattle.std.proofs.lemmas.Bool.{cases_Bool, cases_lt, eq-eqb, ne_eqb, cond-true, cond-false, false≢true}
 use Rattle.std.proofs.lemmas.List.{length-append, length-take, length-drop, get_or_append_left, get_or-append_right, get_or-take, get_or-drop}
-use Rattle.std.proofs.lemmas.List.FromFn.{get_or-map-range_with_len}
 use Rattle.std.proofs.Math.ListN.{drop_of_length-le}
 use Rattle.std.proofs.Math.Seq.{take-append_seam}
 use Rattle.rs01_layers.specs.Sectors.{length_of}
 use Rattle.rs01_layers.specs.Layout.{IsShape, layer_of, place_of}
 use Rattle.rs01_layers.specs.declared.task.LayerOut.{LayerOut}
 use Rattle.rs01_layers.proofs.BlockLemmas.{length-block}
-use Rattle.rs01_layers.proofs.PlaceLemmas.{each_sector_has_a_place, place_determines_sector}
 use Rattle.rs01_sums.specs.Marker.{marker}
 use Rattle.rs01_sums.proofs.MarkerLemmas.{length-marker}
-use Rattle.rs01_ecchead.specs.Erased.{Known, block_in, image_len, is_absent, is_erased}
-use Rattle.rs01_ecchead.proofs.Flats.{flat_more}
-use Rattle.rs01_fix.specs.Inputs.{flag_at, flags_at, place_number}
-use Rattle.rs01_fix.specs.Repair.{after_by, bytes_after, fixed_by, image_by, is_mended, is_restored, restored_at}
-use Rattle.rs01_fix.specs.Progress.{HaveBlocks}
-use Rattle.rs01_fix.proofs.InputLemmas.{size_fits}
+use Rattle.rs01_ecchead.specs.Opened.{Opened}
+use Rattle.rs01_ecchead.specs.Erased.{known_by, block_in, image_len, is_absent, is_erased}
+use Rattle.rs01_lists.proofs.Flats.{flat_more}
+use Rattle.rs01_repair.specs.Inputs.{flags_at}
+use Rattle.rs01_repair.specs.Restored.{IsBlockWhere, is_restored, restored_at}
+use Rattle.rs01_fix.specs.Repair.{HaveBlocks, after_by, bytes_after, fixed_by, image_by, is_mended, mended_block}
+use Rattle.rs01_repair.proofs.InputLemmas.{flag_of_sector, size_fits}
 use Rattle.rs01_fix.proofs.ProgressLemmas.{Sizes, IsFixed, ends_within}
 
--- what is known of an image that can be protected
-pub record IsImage (known : Known) (r : ℕ) : Type 0 where
-  pub shape : IsShape known.sectors r
-  pub some_last : 1 ≤ known.last_bytes
-  pub last_fits : known.last_bytes ≤ 2048
+-- what an error correction file says of an image that can be protected
+pub record IsImage (c : Opened) : Type 0 where
+  pub shape : IsShape c.fields.sectors c.fields.parity
+  pub some_last : 1 ≤ c.fields.last_bytes
+  pub last_fits : c.fields.last_bytes ≤ 2048
 
-pub sizes_of : (known : Known) (r : ℕ) → IsImage known r → Sizes known.sectors (image_len known) (length_of known.sectors known.last_bytes)
-sizes_of known r is =
+pub sizes_of : (c : Opened) → IsImage c → Sizes c.fields.sectors (image_len (known_by c)) (length_of c.fields.sectors c.fields.last_bytes)
+sizes_of c is =
     let some = is.shape.some_sectors in
     record {
       some = some;
-      whole = λ s h. cond-false (eqb (s + 1) known.sectors) known.last_bytes 2048 (ne_eqb (s + 1) known.sectors (λ e. omega arith));
-      last = λ s e. let d = cond-true (eqb (s + 1) known.sectors) known.last_bytes 2048 (eq-eqb (s + 1) known.sectors e) in omega arith;
-      fits = λ s. size_fits known.sectors known.last_bytes s is.last_fits;
+      whole = λ s h. cond-false (eqb (s + 1) c.fields.sectors) c.fields.last_bytes 2048 (ne_eqb (s + 1) c.fields.sectors (λ e. omega arith));
+      last = λ s e. let d = cond-true (eqb (s + 1) c.fields.sectors) c.fields.last_bytes 2048 (eq-eqb (s + 1) c.fields.sectors e) in omega arith;
+      fits = λ s. size_fits c.fields.sectors c.fields.last_bytes s is.last_fits;
     }
 
 -- pieces of the sizes of the sectors
@@ -79,130 +79,138 @@ get_or-sectors count len size f sizes same (suc n) s j fits below inside =
     (cases_lt s n)
 
 -- the block of a sector afterwards
-pub after-mended : (known : Known) (y : List ℕ) (r : ℕ) (answers : ℕ → LayerOut) (s : ℕ) → is_mended known y r answers s ≡ true
-    → after_by known y r answers s ≡ restored_at (answers (layer_of known.sectors r s)) (place_of known.sectors r s)
+pub after-some : (c : Opened) (y : List ℕ) (answers : ℕ → LayerOut) (s : ℕ) (b : List ℕ) → mended_block c answers s ≡ Some b → after_by c y answers s ≡ b
 unfolding after_by
-after-mended known y r answers s e =
-    cond-true (is_mended known y r answers s) (restored_at (answers (layer_of known.sectors r s)) (place_of known.sectors r s))
-    (cond (is_absent known y s) (marker s) (block_in known y s)) e
+after-some c y answers s b e = ap (λ o. unwrap_or o (cond (is_absent (known_by c) y s) (marker s) (block_in (known_by c) y s))) e
 
-pub after-absent : (known : Known) (y : List ℕ) (r : ℕ) (answers : ℕ → LayerOut) (s : ℕ) → is_mended known y r answers s ≡ false
-    → is_absent known y s ≡ true → after_by known y r answers s ≡ marker s
+pub after-absent : (c : Opened) (y : List ℕ) (answers : ℕ → LayerOut) (s : ℕ) → mended_block c answers s ≡ None
+    → is_absent (known_by c) y s ≡ true → after_by c y answers s ≡ marker s
 unfolding after_by
-after-absent known y r answers s e f =
-    cond-false (is_mended known y r answers s) (restored_at (answers (layer_of known.sectors r s)) (place_of known.sectors r s))
-    (cond (is_absent known y s) (marker s) (block_in known y s)) e
-    ∙ cond-true (is_absent known y s) (marker s) (block_in known y s) f
+after-absent c y answers s e f =
+    ap (λ o. unwrap_or o (cond (is_absent (known_by c) y s) (marker s) (block_in (known_by c) y s))) e
+    ∙ cond-true (is_absent (known_by c) y s) (marker s) (block_in (known_by c) y s) f
 
-pub after-same : (known : Known) (y : List ℕ) (r : ℕ) (answers : ℕ → LayerOut) (s : ℕ) → is_mended known y r answers s ≡ false
-    → is_absent known y s ≡ false → after_by known y r answers s ≡ block_in known y s
+pub after-same : (c : Opened) (y : List ℕ) (answers : ℕ → LayerOut) (s : ℕ) → mended_block c answers s ≡ None
+    → is_absent (known_by c) y s ≡ false → after_by c y answers s ≡ block_in (known_by c) y s
 unfolding after_by
-after-same known y r answers s e f =
-    cond-false (is_mended known y r answers s) (restored_at (answers (layer_of known.sectors r s)) (place_of known.sectors r s))
-    (cond (is_absent known y s) (marker s) (block_in known y s)) e
-    ∙ cond-false (is_absent known y s) (marker s) (block_in known y s) f
+after-same c y answers s e f =
+    ap (λ o. unwrap_or o (cond (is_absent (known_by c) y s) (marker s) (block_in (known_by c) y s))) e
+    ∙ cond-false (is_absent (known_by c) y s) (marker s) (block_in (known_by c) y s) f
 
--- the flag of a sector's place is that of the sector
-pub flag_of_sector : (known : Known) (y : List ℕ) (r s : ℕ) → IsShape known.sectors r → s < known.sectors
-    → get_or (flags_at known y r (layer_of known.sectors r s)) (place_of known.sectors r s) false ≡ is_erased known y s
-unfolding flags_at flag_at
-flag_of_sector known y r s shape below =
-    let at = each_sector_has_a_place known.sectors r s shape below in
-    let l : ℕ = layer_of known.sectors r s in
-    let p : ℕ = place_of known.sectors r s in
-    let is : place_number known r l p ≡ s = place_determines_sector known.sectors r s shape in
-    get_or-map-range_with_len (flag_at known y r l) 0 (255 - r) p p false at.1 (let z : 0 + p ≡ p = omega arith in z)
-    ∙ (λ i. nat_lt (is i) known.sectors && is_erased known y (is i))
-    ∙ ap (λ b. b && is_erased known y s) (lt-ltb s known.sectors below)
+-- a block that there may be
+pub block_long : (w : Bool) (o : Option (List ℕ)) (b : List ℕ) → IsBlockWhere w o → o ≡ Some b → length b ≡ 2048
+block_long true (Some x) b is e = let same : x ≡ b = cc in sym (ap length same) ∙ is
+block_long true None b is e = absurd is
+block_long false (Some x) b is e = absurd is
+block_long false None b is e = absurd (let never : ⊥ = cc in never)
 
-pub both_parts : (a b : Bool) → a && b ≡ true → (a ≡ true) × (b ≡ true)
-both_parts true true e = (refl, refl)
-both_parts true false e = cc e
-both_parts false b e = cc e
+block_where : (w : Bool) (o : Option (List ℕ)) → IsBlockWhere w o → is_some o ≡ w
+block_where true (Some x) is = refl
+block_where true None is = absurd is
+block_where false (Some x) is = absurd is
+block_where false None is = refl
 
-pub mended_parts : (known : Known) (y : List ℕ) (r : ℕ) (answers : ℕ → LayerOut) (s : ℕ) → is_mended known y r answers s ≡ true
-    → (is_erased known y s ≡ true) × (is_restored (answers (layer_of known.sectors r s)) ≡ true)
+-- a sector is mended exactly where it is erased and its layer is restored
+pub mended_is : (c : Opened) (y : List ℕ) (answers : ℕ → LayerOut) (s : ℕ) → IsShape c.fields.sectors c.fields.parity → HaveBlocks c y answers → s < c.fields.sectors
+    → is_mended c answers s ≡ (is_erased (known_by c) y s && is_restored (answers (layer_of c.fields.sectors c.fields.parity s)))
 unfolding is_mended
-mended_parts known y r answers s e = both_parts (is_erased known y s) (is_restored (answers (layer_of known.sectors r s))) e
+mended_is c y answers s shape blocks below =
+    let l = layer_of c.fields.sectors c.fields.parity s in
+    let p = place_of c.fields.sectors c.fields.parity s in
+    block_where (get_or (flags_at c.fields (is_erased (known_by c) y) l) p false && is_restored (answers l)) (restored_at (answers l) p) (blocks l p)
+    ∙ ap (λ b. b && is_restored (answers l)) (flag_of_sector c.fields (is_erased (known_by c) y) s shape below)
 
-pub length-after : (known : Known) (y : List ℕ) (r : ℕ) (answers : ℕ → LayerOut) → IsImage known r → HaveBlocks known y r answers
-    → (s : ℕ) → s < known.sectors → length (after_by known y r answers s) ≡ 2048
-length-after known y r answers is blocks s below =
-    ⊎_elim
-    (λ mended.
-    let parts = mended_parts known y r answers s mended in
-    ap length (after-mended known y r answers s mended)
-    ∙ blocks (layer_of known.sectors r s) (place_of known.sectors r s) (flag_of_sector known y r s is.shape below ∙ parts.0) parts.1)
-    (λ not_mended.
-    ⊎_elim
-    (λ absent. ap length (after-absent known y r answers s not_mended absent) ∙ length-marker s)
-    (λ there. ap length (after-same known y r answers s not_mended there) ∙ length-block y s (length_of known.sectors known.last_bytes s) (size_fits known.sectors known.last_bytes s is.last_fits))
-    (cases_Bool (is_absent known y s)))
-    (cases_Bool (is_mended known y r answers s))
+pub not_mended : (c : Opened) (answers : ℕ → LayerOut) (s : ℕ) → is_mended c answers s ≡ false → mended_block c answers s ≡ None
+unfolding is_mended
+not_mended c answers s e = none (mended_block c answers s) e
+  where
+    none : (o : Option (List ℕ)) → is_some o ≡ false → o ≡ None
+    none (Some x) e = absurd (false≢true (sym e))
+    none None e = refl
 
-length-bytes_after : (known : Known) (y : List ℕ) (r : ℕ) (answers : ℕ → LayerOut) → IsImage known r → HaveBlocks known y r answers
-    → (s : ℕ) → s < known.sectors → length (bytes_after known y r answers s) ≡ length_of known.sectors known.last_bytes s
-length-bytes_after known y r answers is blocks s below =
-    let long = length-after known y r answers is blocks s below in
-    let fits = size_fits known.sectors known.last_bytes s is.last_fits in
-    omega (arith, length-take (length_of known.sectors known.last_bytes s) (after_by known y r answers s))
+pub length-after : (c : Opened) (y : List ℕ) (answers : ℕ → LayerOut) → IsImage c → HaveBlocks c y answers
+    → (s : ℕ) → s < c.fields.sectors → length (after_by c y answers s) ≡ 2048
+length-after c y answers is blocks s below = which (mended_block c answers s) refl
+  where
+    l : ℕ
+    l = layer_of c.fields.sectors c.fields.parity s
 
-pub length-image_by : (known : Known) (y : List ℕ) (r : ℕ) (answers : ℕ → LayerOut) → IsImage known r → HaveBlocks known y r answers
-    → length (image_by known y r answers) ≡ image_len known
+    p : ℕ
+    p = place_of c.fields.sectors c.fields.parity s
+
+    which : (o : Option (List ℕ)) → mended_block c answers s ≡ o → length (after_by c y answers s) ≡ 2048
+    which (Some b) e =
+        ap length (after-some c y answers s b e)
+        ∙ block_long (get_or (flags_at c.fields (is_erased (known_by c) y) l) p false && is_restored (answers l)) (mended_block c answers s) b (blocks l p) e
+    which None e =
+        ⊎_elim
+        (λ absent. ap length (after-absent c y answers s e absent) ∙ length-marker s)
+        (λ there. ap length (after-same c y answers s e there) ∙ length-block y s (length_of c.fields.sectors c.fields.last_bytes s) (size_fits c.fields.sectors c.fields.last_bytes s is.last_fits))
+        (cases_Bool (is_absent (known_by c) y s))
+
+length-bytes_after : (c : Opened) (y : List ℕ) (answers : ℕ → LayerOut) → IsImage c → HaveBlocks c y answers
+    → (s : ℕ) → s < c.fields.sectors → length (bytes_after c y answers s) ≡ length_of c.fields.sectors c.fields.last_bytes s
+length-bytes_after c y answers is blocks s below =
+    let long = length-after c y answers is blocks s below in
+    let fits = size_fits c.fields.sectors c.fields.last_bytes s is.last_fits in
+    omega (arith, length-take (length_of c.fields.sectors c.fields.last_bytes s) (after_by c y answers s))
+
+pub length-image_by : (c : Opened) (y : List ℕ) (answers : ℕ → LayerOut) → IsImage c → HaveBlocks c y answers
+    → length (image_by c y answers) ≡ image_len (known_by c)
 unfolding image_by
-length-image_by known y r answers is blocks =
-    length-image known.sectors (image_len known) (length_of known.sectors known.last_bytes) (bytes_after known y r answers) (sizes_of known r is)
-    (length-bytes_after known y r answers is blocks)
+length-image_by c y answers is blocks =
+    length-image c.fields.sectors (image_len (known_by c)) (length_of c.fields.sectors c.fields.last_bytes) (bytes_after c y answers) (sizes_of c is)
+    (length-bytes_after c y answers is blocks)
 
-get_or-image_by : (known : Known) (y : List ℕ) (r : ℕ) (answers : ℕ → LayerOut) → IsImage known r → HaveBlocks known y r answers
-    → (s j : ℕ) → s < known.sectors → j < length_of known.sectors known.last_bytes s
-    → get_or (image_by known y r answers) (2048 * s + j) 0 ≡ get_or (after_by known y r answers s) j 0
+get_or-image_by : (c : Opened) (y : List ℕ) (answers : ℕ → LayerOut) → IsImage c → HaveBlocks c y answers
+    → (s j : ℕ) → s < c.fields.sectors → j < length_of c.fields.sectors c.fields.last_bytes s
+    → get_or (image_by c y answers) (2048 * s + j) 0 ≡ get_or (after_by c y answers s) j 0
 unfolding image_by
-get_or-image_by known y r answers is blocks s j below inside =
-    get_or-sectors known.sectors (image_len known) (length_of known.sectors known.last_bytes) (bytes_after known y r answers) (sizes_of known r is)
-    (length-bytes_after known y r answers is blocks) known.sectors s j (omega arith) below inside
-    ∙ get_or-take (length_of known.sectors known.last_bytes s) (after_by known y r answers s) j 0 inside
+get_or-image_by c y answers is blocks s j below inside =
+    get_or-sectors c.fields.sectors (image_len (known_by c)) (length_of c.fields.sectors c.fields.last_bytes) (bytes_after c y answers) (sizes_of c is)
+    (length-bytes_after c y answers is blocks) c.fields.sectors s j (omega arith) below inside
+    ∙ get_or-take (length_of c.fields.sectors c.fields.last_bytes s) (after_by c y answers s) j 0 inside
 
-pub fixed_is : (known : Known) (y : List ℕ) (r : ℕ) (answers : ℕ → LayerOut) (cut : Bool) → IsImage known r → HaveBlocks known y r answers
-    → IsFixed known.sectors (image_len known) (length_of known.sectors known.last_bytes) (after_by known y r answers) (fixed_by known y r answers cut)
+pub fixed_is : (c : Opened) (y : List ℕ) (answers : ℕ → LayerOut) (cut : Bool) → IsImage c → HaveBlocks c y answers
+    → IsFixed c.fields.sectors (image_len (known_by c)) (length_of c.fields.sectors c.fields.last_bytes) (after_by c y answers) (fixed_by c y answers cut)
 unfolding fixed_by
-fixed_is known y r answers cut is blocks =
-    let image : List ℕ = image_by known y r answers in
-    let rest : List ℕ = cond cut [] (drop (image_len known) y) in
-    let long = length-image_by known y r answers is blocks in
+fixed_is c y answers cut is blocks =
+    let image : List ℕ = image_by c y answers in
+    let rest : List ℕ = cond cut [] (drop (image_len (known_by c)) y) in
+    let long = length-image_by c y answers is blocks in
     record {
       long = omega (arith, length-append image rest);
       bytes = λ s j below inside.
-          let end = ends_within known.sectors (image_len known) (length_of known.sectors known.last_bytes) (sizes_of known r is) s below in
-          get_or_append_left image rest 0 (2048 * s + j) (omega arith) ∙ get_or-image_by known y r answers is blocks s j below inside;
+          let end = ends_within c.fields.sectors (image_len (known_by c)) (length_of c.fields.sectors c.fields.last_bytes) (sizes_of c is) s below in
+          get_or_append_left image rest 0 (2048 * s + j) (omega arith) ∙ get_or-image_by c y answers is blocks s j below inside;
     }
 
-pub length-fixed_by : (known : Known) (y : List ℕ) (r : ℕ) (answers : ℕ → LayerOut) → IsImage known r → HaveBlocks known y r answers
-    → length (fixed_by known y r answers false) ≡ max (length y) (image_len known)
+pub length-fixed_by : (c : Opened) (y : List ℕ) (answers : ℕ → LayerOut) → IsImage c → HaveBlocks c y answers
+    → length (fixed_by c y answers false) ≡ max (length y) (image_len (known_by c))
 unfolding fixed_by
-length-fixed_by known y r answers is blocks =
-    let long = length-image_by known y r answers is blocks in
-    omega (arith, length-append (image_by known y r answers) (drop (image_len known) y), length-drop (image_len known) y)
+length-fixed_by c y answers is blocks =
+    let long = length-image_by c y answers is blocks in
+    omega (arith, length-append (image_by c y answers) (drop (image_len (known_by c)) y), length-drop (image_len (known_by c)) y)
 
-pub surplus_stays : (known : Known) (y : List ℕ) (r : ℕ) (answers : ℕ → LayerOut) → IsImage known r → HaveBlocks known y r answers
-    → (k : ℕ) → image_len known ≤ k → get_or (fixed_by known y r answers false) k 0 ≡ get_or y k 0
+pub surplus_stays : (c : Opened) (y : List ℕ) (answers : ℕ → LayerOut) → IsImage c → HaveBlocks c y answers
+    → (k : ℕ) → image_len (known_by c) ≤ k → get_or (fixed_by c y answers false) k 0 ≡ get_or y k 0
 unfolding fixed_by
-surplus_stays known y r answers is blocks k past =
-    get_or-append_right (image_by known y r answers) (drop (image_len known) y) (image_len known) k 0 (length-image_by known y r answers is blocks) past
-    ∙ get_or-drop (image_len known) y (k - image_len known) 0
-    ∙ ap (λ i. get_or y i 0) (let e : image_len known + (k - image_len known) ≡ k = omega arith in e)
+surplus_stays c y answers is blocks k past =
+    get_or-append_right (image_by c y answers) (drop (image_len (known_by c)) y) (image_len (known_by c)) k 0 (length-image_by c y answers is blocks) past
+    ∙ get_or-drop (image_len (known_by c)) y (k - image_len (known_by c)) 0
+    ∙ ap (λ i. get_or y i 0) (let e : image_len (known_by c) + (k - image_len (known_by c)) ≡ k = omega arith in e)
 
 -- cutting the fixed file to the image's length
-pub fixed_cut : (known : Known) (y : List ℕ) (r : ℕ) (answers : ℕ → LayerOut) → IsImage known r → HaveBlocks known y r answers
-    → take (image_len known) (fixed_by known y r answers false) ≡ fixed_by known y r answers true
+pub fixed_cut : (c : Opened) (y : List ℕ) (answers : ℕ → LayerOut) → IsImage c → HaveBlocks c y answers
+    → take (image_len (known_by c)) (fixed_by c y answers false) ≡ fixed_by c y answers true
 unfolding fixed_by
-fixed_cut known y r answers is blocks =
-    ap (λ n. take n (image_by known y r answers ++ drop (image_len known) y)) (sym (length-image_by known y r answers is blocks))
-    ∙ take-append_seam (image_by known y r answers) (drop (image_len known) y) ∙ sym (append-nil (image_by known y r answers))
+fixed_cut c y answers is blocks =
+    ap (λ n. take n (image_by c y answers ++ drop (image_len (known_by c)) y)) (sym (length-image_by c y answers is blocks))
+    ∙ take-append_seam (image_by c y answers) (drop (image_len (known_by c)) y) ∙ sym (append-nil (image_by c y answers))
 
 -- where nothing stands past the image, there is nothing to cut
-pub nothing_to_cut : (known : Known) (y : List ℕ) (r : ℕ) (answers : ℕ → LayerOut) (cut : Bool) → length y ≤ image_len known
-    → fixed_by known y r answers false ≡ fixed_by known y r answers cut
+pub nothing_to_cut : (c : Opened) (y : List ℕ) (answers : ℕ → LayerOut) (cut : Bool) → length y ≤ image_len (known_by c)
+    → fixed_by c y answers false ≡ fixed_by c y answers cut
 unfolding fixed_by
-nothing_to_cut known y r answers true h = ap (λ xs. image_by known y r answers ++ xs) (drop_of_length-le y h)
-nothing_to_cut known y r answers false h = refl
+nothing_to_cut c y answers true h = ap (λ xs. image_by c y answers ++ xs) (drop_of_length-le y h)
+nothing_to_cut c y answers false h = refl

@@ -1,14 +1,4 @@
-pub mod Counts
-mod Intact
-mod ComesBack
-mod GoesOn
-mod ErasedLemmas
-mod Numbered
-mod FlagLemmas
 mod HeldLemmas
-mod InputLemmas
-mod PlacedLemmas
-mod CorrectLemmas
 mod AnswerLemmas
 mod PutLemmas
 mod ProgressLemmas
@@ -16,4 +6,7 @@ mod OrderLemmas
 mod FixedLemmas
 mod StandLemmas
 mod CutLemmas
+mod ToldLemmas
 mod FileLemmas
+mod ComesBack
+mod GoesOn

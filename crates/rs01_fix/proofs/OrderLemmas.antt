@@ -5,7 +5,7 @@ use Rattle.std.proofs.lemmas.Bool.{cases_lt, cases_eq}
 use Rattle.rs01_layers.specs.Layout.{IsShape, layer_of, layers_of, number_at, place_of, sector_at}
 use Rattle.rs01_layers.proofs.PlaceLemmas.{place_determines_sector, each_sector_has_a_place, each_sector_has_one_place}
 use Rattle.rs01_fix.specs.Progress.{IsDone, IsAhead}
-use Rattle.rs01_fix.proofs.InputLemmas.{some_sector, no_sector}
+use Rattle.rs01_repair.proofs.InputLemmas.{some_sector, no_sector}
 
 before_or_at : (lay pla l p : ℕ) → (lay < l) ⊎ ((lay ≡ l) × (pla < p + 1)) → ((lay < l) ⊎ ((lay ≡ l) × (pla < p))) ⊎ ((lay ≡ l) × (pla ≡ p))
 before_or_at lay pla l p =

@@ -1,23 +1,13 @@
 -- Bytes that are put at a place of a file.
-use Rattle.std.proofs.Common.{◌≡◌, ℕ, zero, suc, ◌+◌, ◌-◌, ◌<◌, ◌≤◌, List, ◌++◌, length, take, drop, replicate, get_or, refl, sym, ap, ◌∙◌, arith, ⊎_elim}
-use Rattle.std.proofs.lemmas.Bool.{cases_lt}
-use Rattle.std.proofs.lemmas.List.{length-append, length-take, length-drop, length-replicate, get_or_append_left, get_or-append_right, get_or_past, get_or-take, get_or-drop}
-use Rattle.rs01_outside.specs.Files.{over, padded, put_at}
+use Rattle.std.proofs.Common.{◌≡◌, ℕ, ◌+◌, ◌-◌, ◌<◌, ◌≤◌, List, ◌++◌, length, take, drop, get_or, ap, ◌∙◌, arith}
+use Rattle.std.proofs.lemmas.List.{length-append, length-take, length-drop, get_or_append_left, get_or-append_right, get_or-take, get_or-drop}
+use Rattle.rs01_lists.specs.Bytes.{padded, zeros}
+use Rattle.rs01_lists.proofs.Padding.{get_or-padded, length-zeros}
+use Rattle.rs01_outside.specs.Files.{over, put_at}
 
-zero_at : (n k : ℕ) → get_or {A = ℕ} (replicate n 0) k 0 ≡ 0
-zero_at zero k = refl
-zero_at (suc n) zero = refl
-zero_at (suc n) (suc k) = zero_at n k
-
-get_or-padded : (old : List ℕ) (end k : ℕ) → get_or (padded old end) k 0 ≡ get_or old k 0
-get_or-padded old end k =
-    ⊎_elim
-    (λ h. get_or_append_left old (replicate (end - length old) 0) 0 k h)
-    (λ h. get_or-append_right old (replicate (end - length old) 0) (length old) k 0 refl h ∙ zero_at (end - length old) (k - length old) ∙ sym (get_or_past old k 0 h))
-    (cases_lt k (length old))
-
-length-padded : (old : List ℕ) (end : ℕ) → length (padded old end) ≡ length old + (end - length old)
-length-padded old end = length-append old (replicate (end - length old) 0) ∙ ap (λ n. length old + n) (length-replicate (end - length old) 0)
+length-long : (old : List ℕ) (end : ℕ) → length (padded end old) ≡ length old + (end - length old)
+unfolding padded
+length-long old end = length-append old (zeros (end - length old)) ∙ ap (λ n. length old + n) (length-zeros (end - length old))
 
 length-front : (old bytes : List ℕ) (at : ℕ) → at + length bytes ≤ length old → length (take at old ++ bytes) ≡ at + length bytes
 length-front old bytes at room = length-append (take at old) bytes ∙ (let t = length-take at old in omega arith)
@@ -49,22 +39,22 @@ over-behind old bytes at k room h =
     ∙ get_or-drop (at + length bytes) old (k - (at + length bytes)) 0
     ∙ ap (λ i. get_or old i 0) (let e : at + length bytes + (k - (at + length bytes)) ≡ k = omega arith in e)
 
-room_made : (old bytes : List ℕ) (at : ℕ) → at + length bytes ≤ length (padded old (at + length bytes))
-room_made old bytes at = omega (arith, length-padded old (at + length bytes))
+room_made : (old bytes : List ℕ) (at : ℕ) → at + length bytes ≤ length (padded (at + length bytes) old)
+room_made old bytes at = omega (arith, length-long old (at + length bytes))
 
 -- the file is as long as before, or ends with the bytes
 pub length-put_at : (old bytes : List ℕ) (at : ℕ) → length (put_at old at bytes) ≡ length old + (at + length bytes - length old)
-length-put_at old bytes at = length-over (padded old (at + length bytes)) bytes at (room_made old bytes at) ∙ length-padded old (at + length bytes)
+length-put_at old bytes at = length-over (padded (at + length bytes) old) bytes at (room_made old bytes at) ∙ length-long old (at + length bytes)
 
 -- the bytes stand at their place
 pub put_at-inside : (old bytes : List ℕ) (at i : ℕ) → i < length bytes → get_or (put_at old at bytes) (at + i) 0 ≡ get_or bytes i 0
-put_at-inside old bytes at i h = over-inside (padded old (at + length bytes)) bytes at i (room_made old bytes at) h
+put_at-inside old bytes at i h = over-inside (padded (at + length bytes) old) bytes at i (room_made old bytes at) h
 
 -- and all else is as before, where a gap is zeros
 pub put_at-before : (old bytes : List ℕ) (at k : ℕ) → k < at → get_or (put_at old at bytes) k 0 ≡ get_or old k 0
 put_at-before old bytes at k h =
-    over-before (padded old (at + length bytes)) bytes at k (room_made old bytes at) h ∙ get_or-padded old (at + length bytes) k
+    over-before (padded (at + length bytes) old) bytes at k (room_made old bytes at) h ∙ get_or-padded (at + length bytes) old k
 
 pub put_at-behind : (old bytes : List ℕ) (at k : ℕ) → at + length bytes ≤ k → get_or (put_at old at bytes) k 0 ≡ get_or old k 0
 put_at-behind old bytes at k h =
-    over-behind (padded old (at + length bytes)) bytes at k (room_made old bytes at) h ∙ get_or-padded old (at + length bytes) k
+    over-behind (padded (at + length bytes) old) bytes at k (room_made old bytes at) h ∙ get_or-padded (at + length bytes) old k

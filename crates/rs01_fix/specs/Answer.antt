@@ -1,17 +1,15 @@
 -- What is answered for an error correction file and an image that may not be there.
 use Rattle.std.specs.Prelude.{ℕ, ◌≡◌, Bool, List, [], Option, Some, None, Result, Ok, Err, IsSomeAnd}
 use Rattle.std.specs.Option.{unwrap_or}
-use Rattle.rs01_ecchead.specs.Header.{Fields}
-use Rattle.rs01_ecchead.specs.Opened.{opened_file}
-use Rattle.rs01_ecchead.specs.Erased.{known_by}
+use Rattle.rs01_ecchead.specs.Opened.{Opened, opened_file}
 use Rattle.rs01_ecchead.specs.declared.opened.Which.TheVariants as which
 use Rattle.rs01_ecchead.specs.declared.opened.EccRefusal.{EccRefusal}
 use Rattle.rs01_ecchead.specs.declared.opened.EccRefusal.TheVariants as ecc
-use Rattle.rs01_report.specs.declared.fixes.FixReport.{FixReport}
+use Rattle.rs01_report.specs.declared.reports.FixReport.{FixReport}
 use Rattle.rs01_fix.specs.Between.{IsBetween}
-use Rattle.rs01_fix.specs.Fixed.{fixed, report_of}
+use Rattle.rs01_fix.specs.Repair.{fixed, report_of}
 use Rattle.rs01_fix.specs.declared.refusal.FixRefusal.{FixRefusal}
-use Rattle.rs01_fix.specs.declared.refusal.FixRefusal.TheVariants.{NoFile, Head, Size, Body, ReadFault, WriteFault, OutOfMemory}
+use Rattle.rs01_fix.specs.declared.refusal.FixRefusal.TheVariants.{NoFile, Head, Size, Body, ReadFault, OutOfMemory}
 
 -- the refusal of an error correction file, as it is told here
 abbrev pub refusal_of : EccRefusal → FixRefusal
@@ -27,31 +25,18 @@ pub record Repaired : Type 0 where
   pub file : List ℕ
   pub report : FixReport
 
--- an image file that is repaired by an error correction file whose header has these fields
-unfoldable pub repaired : Fields → List ℕ → List ℕ → Bool → Repaired
-repaired fields e y cut = record {
-  file = fixed (known_by fields e) e y fields.parity cut;
-  report = report_of (known_by fields e) e y fields.parity cut;
-}
+-- an image file that is repaired by what an error correction file says
+unfoldable pub repaired : Opened → List ℕ → Bool → Repaired
+repaired c y cut = record { file = fixed c y cut; report = report_of c y cut }
 
 -- the refusal of the error correction file, else that of the image, else the repaired image
-unfoldable pub answer_with : Result Fields EccRefusal → List ℕ → Option (List ℕ) → Bool → Result Repaired FixRefusal
-answer_with (Err why) e image cut = Err (refusal_of why)
-answer_with (Ok fields) e None cut = Err (NoFile which.Image)
-answer_with (Ok fields) e (Some y) cut = Ok (repaired fields e y cut)
+unfoldable pub answer_with : Result Opened EccRefusal → Option (List ℕ) → Bool → Result Repaired FixRefusal
+answer_with (Err why) image cut = Err (refusal_of why)
+answer_with (Ok c) None cut = Err (NoFile which.Image)
+answer_with (Ok c) (Some y) cut = Ok (repaired c y cut)
 
 abbrev pub fix_answer : (ecc image : Option (List ℕ)) → Bool → Result Repaired FixRefusal
-fix_answer ecc image cut = answer_with (opened_file ecc) (unwrap_or ecc []) image cut
-
--- a refusal that comes from the files, and from no fault or want of memory
-abbrev pub IsOfFiles : FixRefusal → Type 0
-IsOfFiles (NoFile which) = Unit {0}
-IsOfFiles (Head why) = Unit {0}
-IsOfFiles (Size have want) = Unit {0}
-IsOfFiles (Body have want) = Unit {0}
-IsOfFiles ReadFault = ⊥
-IsOfFiles WriteFault = ⊥
-IsOfFiles OutOfMemory = ⊥
+fix_answer ecc image cut = answer_with (opened_file ecc) image cut
 
 -- what may stand under the image's name after any answer: a file between the old one and the fixed one, and the old one
 -- where a refusal of the files keeps it from being repaired

@@ -1,67 +1,46 @@
 -- What repairing gives where the error correction file is intact, and no sector that was altered has its recorded
--- checksum. The image was protected with r parity bytes a codeword, and its file is the list y now.
-use Rattle.std.specs.Prelude.{ℕ, ◌≡◌, ◌≤◌, ◌<◌, ◌*◌, ◌^◌, ◌&&◌, Bool, false, not, nat_lt, All, List, [], length, filter, Some, IsOkAnd}
+-- checksum. c is what the error correction file says, and the image's file is the list y now.
+use Rattle.std.specs.Prelude.{ℕ, ◌≡◌, ◌<◌, ◌*◌, ◌&&◌, Bool, false, not, List, [], filter, Some, Result, IfOk, IsOkAnd, IsSomeAnd}
 use Rattle.std.specs.List.{range_with_len}
-use Rattle.rs01_layers.specs.Sectors.{last_of, length_of, sector, sectors_of}
-use Rattle.rs01_layers.specs.Layout.{layer_of}
-use Rattle.rs01_ecchead.specs.EccFile.{ecc_file}
-use Rattle.rs01_ecchead.specs.Erased.{Known, block_in, erased_in, is_erased}
-use Rattle.rs01_ecchead.specs.Header.{part}
-use Rattle.rs01_ecchead.specs.Recorded.{sums_in}
-use Rattle.rs01_fix.specs.Answer.{Repaired, fix_answer}
-use Rattle.rs01_fix.specs.Between.{IsBetween}
-use Rattle.rs01_fix.specs.Fixed.{fixed}
-
--- an image that has an error correction file with r parity bytes a codeword
-pub record IsProtected (image : List ℕ) (r : ℕ) : Type 0 where
-  pub some_bytes : 1 ≤ length image
-  pub few_sectors : sectors_of (length image) ≤ 16777215
-  pub least_parity : 8 ≤ r
-  pub most_parity : r ≤ 100
-  pub bytes : All (λ b. b < 2 ^ 8) image
-
--- what is known of it by that file
-abbrev pub known_of_image : List ℕ → ℕ → Known
-known_of_image image r = record {
-  sectors = sectors_of (length image);
-  last_bytes = last_of (length image);
-  sums = Some (sums_in (ecc_file image r) (sectors_of (length image)));
-}
-
--- whether a sector is erased
-abbrev pub is_gone : List ℕ → ℕ → List ℕ → ℕ → Bool
-is_gone image r y s = is_erased (known_of_image image r) y s
-
--- whether its layer has more erased sectors than a codeword has parity bytes
-abbrev pub is_beyond : List ℕ → ℕ → List ℕ → ℕ → Bool
-is_beyond image r y s = nat_lt r (erased_in (known_of_image image r) y r (layer_of (sectors_of (length image)) r s))
-
--- each sector that isn't erased is the image's
-abbrev pub HasTheOthers : List ℕ → ℕ → List ℕ → Type 0
-HasTheOthers image r y = (s : ℕ) → s < sectors_of (length image) → is_gone image r y s ≡ false → block_in (known_of_image image r) y s ≡ sector image s
+use Rattle.rs01_layers.specs.Sectors.{length_of}
+use Rattle.rs01_lists.specs.Bytes.{part}
+use Rattle.rs01_outside.specs.Files.{Files}
+use Rattle.rs01_ecchead.specs.Opened.{Opened}
+use Rattle.rs01_report.specs.declared.reports.FixReport.{FixReport}
+use Rattle.rs01_repair.specs.Intact.{HasTheOthers, Protects, is_beyond, is_gone}
+use Rattle.rs01_fix.specs.Answer.{MayStand, Repaired, fix_answer}
+use Rattle.rs01_fix.specs.declared.refusal.FixRefusal.{FixRefusal}
 
 -- the bytes of a sector are the image's
-abbrev pub IsSectorOf : List ℕ → List ℕ → ℕ → Type 0
-IsSectorOf image file s =
-    part file (2048 * s) (length_of (sectors_of (length image)) (last_of (length image)) s)
-    ≡ part image (2048 * s) (length_of (sectors_of (length image)) (last_of (length image)) s)
+abbrev pub IsSectorOf : List ℕ → Opened → List ℕ → ℕ → Type 0
+IsSectorOf image c file s =
+    part file (2048 * s) (length_of c.fields.sectors c.fields.last_bytes s) ≡ part image (2048 * s) (length_of c.fields.sectors c.fields.last_bytes s)
 
--- every layer that isn't beyond is the image's again, and exactly the erased sectors of the others are lost
-pub record ComesBack (image : List ℕ) (r : ℕ) (y : List ℕ) (repaired : Repaired) : Type 0 where
-  pub sectors : (s : ℕ) → s < sectors_of (length image) → is_beyond image r y s ≡ false → IsSectorOf image repaired.file s
-  pub restored : repaired.report.restored ≡ filter (λ s. is_gone image r y s && not (is_beyond image r y s)) (range_with_len 0 (sectors_of (length image)))
-  pub lost : repaired.report.lost ≡ filter (λ s. is_gone image r y s && is_beyond image r y s) (range_with_len 0 (sectors_of (length image)))
+-- every layer that isn't beyond is the image's again
+abbrev pub SectorsComeBack : List ℕ → Opened → List ℕ → Repaired → Type 0
+SectorsComeBack image c y repaired = (s : ℕ) → s < c.fields.sectors → is_beyond c y s ≡ false → IsSectorOf image c repaired.file s
+
+-- and exactly the erased sectors of the other layers are lost
+pub record ComesBack (image : List ℕ) (c : Opened) (y : List ℕ) (repaired : Repaired) : Type 0 where
+  pub sectors : SectorsComeBack image c y repaired
+  pub restored : repaired.report.restored ≡ filter (λ s. is_gone c y s && not (is_beyond c y s)) (range_with_len 0 c.fields.sectors)
+  pub lost : repaired.report.lost ≡ filter (λ s. is_gone c y s && is_beyond c y s) (range_with_len 0 c.fields.sectors)
   pub strange : repaired.report.strange ≡ []
 
 -- that is so for every image, redundancy and damage
 abbrev pub ImagesComeBack : Type 0
-ImagesComeBack = (image : List ℕ) (r : ℕ) (y : List ℕ) (cut : Bool) → IsProtected image r → HasTheOthers image r y
-    → IsOkAnd (fix_answer (Some (ecc_file image r)) (Some y) cut) (ComesBack image r y)
+ImagesComeBack = (image file y : List ℕ) (r : ℕ) (c : Opened) (cut : Bool) → Protects file image r c → HasTheOthers image c y
+    → IsOkAnd (fix_answer (Some file) (Some y) cut) (ComesBack image c y)
 
--- a file z that an interrupted repair of y left, in which each sector that isn't erased is the image's too: a repair of z
--- gives back the layers that the repair of y would have given back
+-- a file z that may stand after an interrupted repair of y, in which each sector that isn't erased is the image's too: a
+-- repair of z gives back the layers that the repair of y would have given back
 abbrev pub RepairGoesOn : Type 0
-RepairGoesOn = (image : List ℕ) (r : ℕ) (y z : List ℕ) (cut again : Bool) → IsProtected image r → HasTheOthers image r y → HasTheOthers image r z
-    → IsBetween y (fixed (known_of_image image r) (ecc_file image r) y r cut) z
-    → IsOkAnd (fix_answer (Some (ecc_file image r)) (Some z) again)
-    (λ repaired. (s : ℕ) → s < sectors_of (length image) → is_beyond image r y s ≡ false → IsSectorOf image repaired.file s)
+RepairGoesOn = (image file y z : List ℕ) (r : ℕ) (c : Opened) (cut again : Bool) → Protects file image r c
+    → HasTheOthers image c y → HasTheOthers image c z → MayStand (fix_answer (Some file) (Some y) cut) (Some y) (Some z)
+    → IsOkAnd (fix_answer (Some file) (Some z) again) (SectorsComeBack image c y)
+
+-- it is so of the image under one name, which was repaired by the error correction file under another
+abbrev pub GivesBack : (image ecc : List ℕ) → (old new : Files) → Result FixReport FixRefusal → Type 0
+GivesBack image ecc old new result = (original file y : List ℕ) (r : ℕ) (c : Opened) → old ecc ≡ Some file → old image ≡ Some y
+    → Protects file original r c → HasTheOthers original c y
+    → IfOk result (λ told. IsSomeAnd (new image) (λ now. ComesBack original c y (record { file = now; report = told })))

@@ -1,7 +1,7 @@
-pub mod Inputs
 pub mod Repair
-pub mod Fixed
 pub mod Between
 pub mod Progress
 pub mod Answer
+pub mod Outcome
+pub mod Steps
 pub mod ComesBack

@@ -1,13 +1,12 @@
 -- How far the repair of an image file has come. The layers are taken in rising order, and in each its places.
-use Rattle.std.specs.Prelude.{ℕ, ◌+◌, ◌*◌, ◌≡◌, ◌<◌, ◌≤◌, ◌⊎◌, Bool, IsTrue, IsSomeAnd, List, Option, length, max, slice_index, slice_index_or, false}
+use Rattle.std.specs.Prelude.{ℕ, ◌+◌, ◌*◌, ◌≡◌, ◌<◌, ◌≤◌, ◌⊎◌, Bool, IsSomeAnd, List, Option, length, max, slice_index}
 use Rattle.rs01_layers.specs.Sectors.{length_of}
-use Rattle.rs01_layers.specs.Layout.{layer_of, number_at, place_of}
+use Rattle.rs01_layers.specs.Layout.{layer_of, place_of}
 use Rattle.rs01_layers.specs.declared.task.LayerOut.{LayerOut}
-use Rattle.rs01_layers.specs.declared.task.LayerOut.TheVariants.{BadSum}
-use Rattle.rs01_ecchead.specs.Erased.{Known, image_len}
-use Rattle.rs01_fix.specs.Inputs.{flags_at}
+use Rattle.rs01_ecchead.specs.Erased.{image_len, known_by}
+use Rattle.rs01_ecchead.specs.Opened.{Opened}
 use Rattle.rs01_fix.specs.Between.{IsBetween}
-use Rattle.rs01_fix.specs.Repair.{after_by, fixed_by, is_restored, restored_at}
+use Rattle.rs01_fix.specs.Repair.{after_by, fixed_by}
 
 -- a file in which some sectors of an image of `len` bytes in `count` sectors are as they are to be afterwards, and the
 -- others are as they were. size s is the number of bytes of sector s.
@@ -27,27 +26,15 @@ abbrev pub IsAhead : ℕ → ℕ → ℕ → ℕ → ℕ → Type 0
 IsAhead n r l p s = (l < layer_of n r s) ⊎ ((layer_of n r s ≡ l) × (p ≤ place_of n r s))
 
 -- the file where all sectors before place p of layer l are done
-abbrev pub Stands : Known → List ℕ → ℕ → (ℕ → LayerOut) → ℕ → ℕ → List ℕ → Type 0
-Stands known y r answers l p file =
-    Holds known.sectors (image_len known) (length_of known.sectors known.last_bytes) y (after_by known y r answers)
-    (IsDone known.sectors r l p) (IsAhead known.sectors r l p) file
+abbrev pub Stands : Opened → List ℕ → (ℕ → LayerOut) → ℕ → ℕ → List ℕ → Type 0
+Stands c y answers l p file =
+    Holds c.fields.sectors (image_len (known_by c)) (length_of c.fields.sectors c.fields.last_bytes) y (after_by c y answers)
+    (IsDone c.fields.sectors c.fields.parity l p) (IsAhead c.fields.sectors c.fields.parity l p) file
 
 -- the same of a file that may not be there
-abbrev pub StandsUnder : Known → List ℕ → ℕ → (ℕ → LayerOut) → ℕ → ℕ → Option (List ℕ) → Type 0
-StandsUnder known y r answers l p file = IsSomeAnd file (Stands known y r answers l p)
+abbrev pub StandsUnder : Opened → List ℕ → (ℕ → LayerOut) → ℕ → ℕ → Option (List ℕ) → Type 0
+StandsUnder c y answers l p file = IsSomeAnd file (Stands c y answers l p)
 
 -- a file that stands after a fault: on the way from the old one to the fixed one
-abbrev pub IsOnTheWay : Known → List ℕ → ℕ → (ℕ → LayerOut) → Bool → Option (List ℕ) → Type 0
-IsOnTheWay known y r answers cut file = IsSomeAnd file (IsBetween y (fixed_by known y r answers cut))
-
--- an answer has a block of 2048 bytes for each erased place, where the layer is restored
-abbrev pub HasBlocks : List Bool → LayerOut → Type 0
-HasBlocks flags answer = (p : ℕ) → IsTrue (slice_index_or flags p false) → IsTrue (is_restored answer) → length (restored_at answer p) ≡ 2048
-
--- the same of the answers to all layers
-abbrev pub HaveBlocks : Known → List ℕ → ℕ → (ℕ → LayerOut) → Type 0
-HaveBlocks known y r answers = (l : ℕ) → HasBlocks (flags_at known y r l) (answers l)
-
--- a place that an answer names is that of a sector
-abbrev pub NamesSector : Known → ℕ → ℕ → LayerOut → Type 0
-NamesSector known r l answer = (p : ℕ) → answer ≡ BadSum p → number_at known.sectors r l p < known.sectors
+abbrev pub IsOnTheWay : Opened → List ℕ → (ℕ → LayerOut) → Bool → Option (List ℕ) → Type 0
+IsOnTheWay c y answers cut file = IsSomeAnd file (IsBetween y (fixed_by c y answers cut))

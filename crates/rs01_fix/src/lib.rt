@@ -1,10 +1,8 @@
 //! Repairing an image by its error correction file.
 #![tactic(auto)]
 
-mod erased;
 mod fixing;
-mod held;
-mod input;
+mod hold;
 pub mod laws;
 mod places;
 mod reading;
@@ -14,6 +12,3 @@ mod told;
 
 pub use fixing::fix_one;
 pub use refusal::FixRefusal;
-
-#[cfg(test)]
-mod tests;

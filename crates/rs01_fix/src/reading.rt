@@ -1,15 +1,26 @@
 //! Reading bytes of a file.
-ghost use Rattle.std.specs.Prelude.{◌≡◌, ◌≢◌, ◌⊎◌, ◌+◌, ◌≤◌, Err, IfErr, IfOk, IsTrue, length};
-ghost use Rattle.rs01_outside.specs.Causes.{Rose};
-ghost use Rattle.rs01_outside.specs.Files.{bytes_of};
-ghost use Rattle.rs01_ecchead.specs.Header.{part};
+ghost use Rattle.std.specs.Prelude.{◌≡◌, ◌+◌, ◌≤◌, IfErr, IfOk, OnOk, is_err, length};
+ghost use Rattle.rs01_outside.specs.DeskState.{InFile, OnlyReads};
+ghost use Rattle.rs01_lists.specs.Bytes.{part};
+ghost use Rattle.rs01_fix.specs.Outcome.{IsOfReading, is_read_fault};
 
 use crate::refusal::FixRefusal;
 use rs01_ecchead::read_piece;
+use rs01_lists::zeroed;
 use rs01_outside::{Desk, Failed};
 use std::alloc::Global;
 
-// So many bytes from a place of a file on. Where the desk has fewer, zeros stand for the rest.
+// Fills the whole of `into` with the bytes from a place of a file on, which has them.
+fn read_whole<D: Desk>(desk: &mut D, name: &str, at: u64, into: &mut [u8]) -> Result<(), Failed>
+    ensures reads { OnlyReads (D.state desk.old) (D.state desk.new) (is_err result) }
+    ensures filled { InFile (D.state desk.old) name.now (λ file. at + length into.old ≤ length file
+        → OnOk result (into.new ≡ part file at (length into.old))) }
+{
+    read_piece(desk, name, at, into)?;
+    Ok(())
+}
+
+// So many bytes from a place of a file on. Where the file has fewer, zeros stand for the rest.
 pub fn read_bytes<D: Desk>(
     alloc: Global,
     desk: &mut D,
@@ -17,21 +28,14 @@ pub fn read_bytes<D: Desk>(
     at: u64,
     size: usize,
 ) -> Result<Vec<u8>, FixRefusal>
-    ensures tells { D.tells desk.new ≡ D.tells desk.old }
-    ensures unchanged { IsTrue (D.tells desk.old) → D.files desk.new ≡ D.files desk.old }
+    ensures reads { OnlyReads (D.state desk.old) (D.state desk.new) (is_read_fault result) }
     ensures len { IfOk result (λ bytes. length bytes.items ≡ size) }
-    ensures bytes { IsTrue (D.tells desk.old) → at + size ≤ length (bytes_of (D.files desk.old) name.now)
-        → IfOk result (λ bytes. bytes.items ≡ part (bytes_of (D.files desk.old) name.now) at size) }
-    ensures fault { result ≡ Err FixRefusal.ReadFault → Rose (D.read_faults desk.old) (D.read_faults desk.new) }
-    ensures reads { result ≢ Err FixRefusal.ReadFault → D.read_faults desk.new ≡ D.read_faults desk.old }
-    ensures later { D.read_faults desk.old ≤ D.read_faults desk.new }
-    ensures writes { D.write_faults desk.new ≡ D.write_faults desk.old }
-    ensures causes { IfErr result (λ why. (why ≡ FixRefusal.ReadFault) ⊎ (why ≡ FixRefusal.OutOfMemory)) }
+    ensures bytes { InFile (D.state desk.old) name.now (λ file. at + size ≤ length file
+        → IfOk result (λ bytes. bytes.items ≡ part file at size)) }
+    ensures causes { IfErr result IsOfReading }
 {
-    let Ok(mut bytes) = vec![in alloc; 0u8; size] else {
-        return Err(FixRefusal::OutOfMemory);
-    };
-    match read_piece(desk, name, at, &mut bytes) {
+    let mut bytes = zeroed(alloc, size)?;
+    match read_whole(desk, name, at, &mut bytes) {
         Ok(()) => Ok(bytes),
         Err(Failed) => Err(FixRefusal::ReadFault),
     }

@@ -1,8 +1,8 @@
 //! Why an image wasn't repaired.
 ghost use Rattle.std.specs.Prelude.{◌≡◌};
-ghost use Rattle.rs01_fix.specs.Answer.{refusal_of};
 
 use rs01_ecchead::{EccRefusal, HeadRefusal, Which};
+use std::alloc::AllocError;
 use thiserror::Error;
 
 /// Why an image wasn't repaired. The first four are told in the order of the reading: the error correction file that
@@ -33,16 +33,29 @@ pub enum FixRefusal {
     OutOfMemory,
 }
 
-// What is told where the error correction file isn't opened.
-pub fn refusal_for(why: EccRefusal) -> FixRefusal
-    ensures { result ≡ refusal_of why }
-{
-    match why {
-        EccRefusal::NoFile => FixRefusal::NoFile(Which::Ecc),
-        EccRefusal::Head(why) => FixRefusal::Head(why),
-        EccRefusal::Size { have, want } => FixRefusal::Size { have, want },
-        EccRefusal::Body { have, want } => FixRefusal::Body { have, want },
-        EccRefusal::ReadFault => FixRefusal::ReadFault,
-        EccRefusal::OutOfMemory => FixRefusal::OutOfMemory,
+impl From<EccRefusal> for FixRefusal {
+    ghost use Rattle.rs01_fix.specs.Answer.{refusal_of};
+
+    ghost from_gives = { λ of why. why ≡ refusal_of of };
+
+    fn from(why: EccRefusal) -> FixRefusal {
+        match why {
+            EccRefusal::NoFile => FixRefusal::NoFile(Which::Ecc),
+            EccRefusal::Head(why) => FixRefusal::Head(why),
+            EccRefusal::Size { have, want } => FixRefusal::Size { have, want },
+            EccRefusal::Body { have, want } => FixRefusal::Body { have, want },
+            EccRefusal::ReadFault => FixRefusal::ReadFault,
+            EccRefusal::OutOfMemory => FixRefusal::OutOfMemory,
+        }
+    }
+}
+
+impl From<AllocError> for FixRefusal {
+    ghost use Rattle.rs01_fix.specs.declared.refusal.FixRefusal.TheVariants.{OutOfMemory};
+
+    ghost from_gives = { λ _ why. why ≡ OutOfMemory };
+
+    fn from(_lack: AllocError) -> FixRefusal {
+        FixRefusal::OutOfMemory
     }
 }

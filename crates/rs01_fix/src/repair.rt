@@ -1,22 +1,29 @@
 //! Repairing the layers of an image, one after the other.
-ghost use Rattle.std.specs.Prelude.{◌≡◌, ◌≢◌, ◌⊎◌, ◌+◌, ◌-◌, ◌*◌, ◌<◌, ◌≤◌, ◌++◌, ◌∷◌, [], Bool, false, Some, Err, IfErr, IfOk, IsTrue, List, OnErr, OnOk, length, map, option_to_list, ℕ};
-ghost use Rattle.std.specs.List.{flat_map, range_with_len};
-ghost use Rattle.rs01_layers.specs.Layout.{file_size, layers_of};
-ghost use Rattle.rs01_outside.specs.Causes.{Rose};
-ghost use Rattle.rs01_outside.specs.Files.{SameElsewhere, bytes_of};
-ghost use Rattle.rs01_ecchead.specs.Erased.{known_of};
-ghost use Rattle.rs01_fix.specs.Inputs.{flags_at, layer_answer, parity_at};
-ghost use Rattle.rs01_fix.specs.Progress.{HasBlocks, IsOnTheWay, NamesSector, StandsUnder};
-ghost use Rattle.rs01_fix.specs.Repair.{fixed_by, is_restored, strange_by, strange_in};
+ghost use Rattle.std.specs.Prelude.{◌≡◌, ◌≢◌, ◌+◌, ◌*◌, ◌++◌, ◌∷◌, [], IfErr, IfOk, List, OnOk, length, false, option_to_list, ℕ};
+ghost use Rattle.rs01_layers.specs.Layout.{layers_of};
+ghost use Rattle.rs01_outside.specs.DeskState.{OnlyReads, WorksOn};
+ghost use Rattle.rs01_repair.specs.Holding.{IsLayer, answer_to, fields_in};
+ghost use Rattle.rs01_repair.specs.Inputs.{parity_at};
+ghost use Rattle.rs01_repair.specs.Restored.{NamesSector, is_restored};
+ghost use Rattle.rs01_fix.specs.Outcome.{IsOfReading, IsOfRepair, is_read_fault, is_write_fault};
+ghost use Rattle.rs01_fix.specs.Repair.{strange_in};
+ghost use Rattle.rs01_fix.specs.Steps.{
+  AreKept,
+  HasEcc,
+  IsBefore,
+  IsEitherWay,
+  IsFound,
+  IsRepaired,
+  Leads,
+  recorded_in,
+};
 
-use crate::held::Held;
-use crate::input::layer_input;
-use crate::places::{layer_is_restored, put_layer};
+use crate::places::put_layer;
 use crate::reading::read_bytes;
 use crate::refusal::FixRefusal;
-use rs01_erase::CorrectTask;
-use rs01_layers::{LayerOut, LayerTask};
+use rs01_layers::LayerOut;
 use rs01_outside::{Desk, Failed};
+use rs01_repair::{Held, answer_layer, layer_is_restored};
 use rs01_report::{Strange, Why};
 use std::alloc::{AllocError, Global};
 
@@ -28,44 +35,16 @@ fn read_parity<D: Desk>(
     held: &Held,
     layer: u32,
 ) -> Result<Vec<u8>, FixRefusal>
-    requires { layer < layers_of held.now.ecc.head.sectors held.now.ecc.head.parity }
-    ensures tells { D.tells desk.new ≡ D.tells desk.old }
-    ensures unchanged { IsTrue (D.tells desk.old) → D.files desk.new ≡ D.files desk.old }
+    requires { IsLayer held.now layer }
+    ensures reads { OnlyReads (D.state desk.old) (D.state desk.new) (is_read_fault result) }
     ensures len { IfOk result (λ parity. length parity.items ≡ 2048 * held.now.ecc.head.parity) }
-    ensures bytes { IsTrue (D.tells desk.old)
-        → length (bytes_of (D.files desk.old) name.now) ≡ file_size held.now.ecc.head.sectors held.now.ecc.head.parity
-        → IfOk result (λ parity. parity.items ≡ parity_at (known_of held.now.ecc) (bytes_of (D.files desk.old) name.now) held.now.ecc.head.parity layer) }
-    ensures fault { result ≡ Err FixRefusal.ReadFault → Rose (D.read_faults desk.old) (D.read_faults desk.new) }
-    ensures reads { result ≢ Err FixRefusal.ReadFault → D.read_faults desk.new ≡ D.read_faults desk.old }
-    ensures later { D.read_faults desk.old ≤ D.read_faults desk.new }
-    ensures writes { D.write_faults desk.new ≡ D.write_faults desk.old }
-    ensures causes { IfErr result (λ why. (why ≡ FixRefusal.ReadFault) ⊎ (why ≡ FixRefusal.OutOfMemory)) }
+    ensures parity { (e : List ℕ) → HasEcc held.now e (D.state desk.old) name.now
+        → IfOk result (λ parity. parity.items ≡ parity_at (recorded_in held.now e) layer) }
+    ensures causes { IfErr result IsOfReading }
 {
     let shape = held.ecc.shape();
     let size = 2048 * shape.parity() as usize;
-    match read_bytes(alloc, desk, name, shape.parity_offset(layer, 0), size) {
-        Ok(parity) => Ok(parity),
-        Err(why) => Err(why),
-    }
-}
-
-// What correcting gives of a layer with this parity.
-fn answer_layer(
-    alloc: Global,
-    held: &Held,
-    layer: u32,
-    parity: Vec<u8>,
-) -> Result<LayerOut, AllocError>
-    requires layer { layer < layers_of held.now.ecc.head.sectors held.now.ecc.head.parity }
-    requires parity { length parity.items ≡ 2048 * held.now.ecc.head.parity }
-    ensures value { (e : List ℕ) → parity.items ≡ parity_at (known_of held.now.ecc) e held.now.ecc.head.parity layer
-        → IfOk result (λ answer. answer ≡ layer_answer (known_of held.now.ecc) e held.now.image.items held.now.ecc.head.parity layer) }
-    ensures blocks { IfOk result (HasBlocks (flags_at (known_of held.now.ecc) held.now.image.items held.now.ecc.head.parity layer)) }
-    ensures names { IfOk result (NamesSector (known_of held.now.ecc) held.now.ecc.head.parity layer) }
-{
-    let input = layer_input(alloc, held, layer, parity)?;
-    let answer = CorrectTask.work(alloc, &input)?;
-    Ok(answer)
+    Ok(read_bytes(alloc, desk, name, shape.parity_offset(layer, 0), size)?)
 }
 
 // Repairs a layer, and gives its answer.
@@ -78,37 +57,20 @@ fn repair_layer<D: Desk>(
     layer: u32,
 ) -> Result<LayerOut, FixRefusal>
     requires differ { image.now ≢ ecc.now }
-    requires layer { layer < layers_of held.now.ecc.head.sectors held.now.ecc.head.parity }
-    ensures tells { D.tells desk.new ≡ D.tells desk.old }
-    ensures elsewhere { IsTrue (D.tells desk.old) → SameElsewhere image.now (D.files desk.old) (D.files desk.new) }
-    ensures answer { (e : List ℕ) → IsTrue (D.tells desk.old) → bytes_of (D.files desk.old) ecc.now ≡ e
-        → length e ≡ file_size held.now.ecc.head.sectors held.now.ecc.head.parity
-        → IfOk result (λ answer. answer ≡ layer_answer (known_of held.now.ecc) e held.now.image.items held.now.ecc.head.parity layer) }
-    ensures names { IfOk result (NamesSector (known_of held.now.ecc) held.now.ecc.head.parity layer) }
-    ensures done { (e : List ℕ) → IsTrue (D.tells desk.old) → bytes_of (D.files desk.old) ecc.now ≡ e
-        → length e ≡ file_size held.now.ecc.head.sectors held.now.ecc.head.parity
-        → StandsUnder (known_of held.now.ecc) held.now.image.items held.now.ecc.head.parity (layer_answer (known_of held.now.ecc) e held.now.image.items held.now.ecc.head.parity) layer 0 (D.files desk.old image.now)
-        → OnOk result (StandsUnder (known_of held.now.ecc) held.now.image.items held.now.ecc.head.parity (layer_answer (known_of held.now.ecc) e held.now.image.items held.now.ecc.head.parity) (layer + 1) 0 (D.files desk.new image.now)) }
-    ensures left { (e : List ℕ) (cut : Bool) → IsTrue (D.tells desk.old) → bytes_of (D.files desk.old) ecc.now ≡ e
-        → length e ≡ file_size held.now.ecc.head.sectors held.now.ecc.head.parity
-        → StandsUnder (known_of held.now.ecc) held.now.image.items held.now.ecc.head.parity (layer_answer (known_of held.now.ecc) e held.now.image.items held.now.ecc.head.parity) layer 0 (D.files desk.old image.now)
-        → OnErr result (IsOnTheWay (known_of held.now.ecc) held.now.image.items held.now.ecc.head.parity (layer_answer (known_of held.now.ecc) e held.now.image.items held.now.ecc.head.parity) cut (D.files desk.new image.now)) }
-    ensures read_fault { result ≡ Err FixRefusal.ReadFault → Rose (D.read_faults desk.old) (D.read_faults desk.new) }
-    ensures write_fault { result ≡ Err FixRefusal.WriteFault → Rose (D.write_faults desk.old) (D.write_faults desk.new) }
-    ensures reads { result ≢ Err FixRefusal.ReadFault → D.read_faults desk.new ≡ D.read_faults desk.old }
-    ensures writes { result ≢ Err FixRefusal.WriteFault → D.write_faults desk.new ≡ D.write_faults desk.old }
-    ensures reads_later { D.read_faults desk.old ≤ D.read_faults desk.new }
-    ensures writes_later { D.write_faults desk.old ≤ D.write_faults desk.new }
-    ensures causes { IfErr result (λ why. (why ≡ FixRefusal.ReadFault) ⊎ ((why ≡ FixRefusal.WriteFault) ⊎ (why ≡ FixRefusal.OutOfMemory))) }
+    requires layer { IsLayer held.now layer }
+    ensures works { WorksOn image.now (D.state desk.old) (D.state desk.new)
+        (is_read_fault result) (is_write_fault result) }
+    ensures answer { (e : List ℕ) → HasEcc held.now e (D.state desk.old) ecc.now
+        → IfOk result (λ answer. answer ≡ answer_to held.now (recorded_in held.now e) layer) }
+    ensures names { IfOk result (NamesSector (fields_in held.now) layer) }
+    ensures put { (e : List ℕ) → HasEcc held.now e (D.state desk.old) ecc.now
+        → let recorded = recorded_in held.now e in
+        Leads (IsBefore held.now recorded layer 0) (IsBefore held.now recorded (layer + 1) 0)
+        (IsEitherWay held.now recorded) image.now (D.state desk.old) (D.state desk.new) result }
+    ensures causes { IfErr result IsOfRepair }
 {
-    let parity = match read_parity(alloc, desk, ecc, held, layer) {
-        Ok(parity) => parity,
-        Err(why) => return Err(why),
-    };
-    let answer = match answer_layer(alloc, held, layer, parity) {
-        Ok(answer) => answer,
-        Err(_) => return Err(FixRefusal::OutOfMemory),
-    };
+    let parity = read_parity(alloc, desk, ecc, held, layer)?;
+    let answer = answer_layer(alloc, held, layer, parity)?;
     match put_layer(desk, image, held, layer, &answer) {
         Ok(()) => Ok(answer),
         Err(Failed) => Err(FixRefusal::WriteFault),
@@ -126,9 +88,9 @@ pub struct Repairs {
 
 // Why a layer is strange, if it is.
 fn strange_of(held: &Held, layer: u32, answer: &LayerOut) -> Option<Strange>
-    requires layer { layer < layers_of held.now.ecc.head.sectors held.now.ecc.head.parity }
-    requires names { NamesSector (known_of held.now.ecc) held.now.ecc.head.parity layer answer.now }
-    ensures { option_to_list result ≡ strange_in (known_of held.now.ecc) held.now.ecc.head.parity layer answer.now }
+    requires layer { IsLayer held.now layer }
+    requires names { NamesSector (fields_in held.now) layer answer.now }
+    ensures { option_to_list result ≡ strange_in (fields_in held.now) layer answer.now }
 {
     match answer {
         LayerOut::Inconsistent(codeword) => Some(Strange {
@@ -146,19 +108,18 @@ fn strange_of(held: &Held, layer: u32, answer: &LayerOut) -> Option<Strange>
 impl Repairs {
     // Adds the answer to the next layer.
     fn add(&mut self, held: &Held, layer: u32, answer: &LayerOut) -> Result<(), AllocError>
-        requires layer { layer < layers_of held.now.ecc.head.sectors held.now.ecc.head.parity }
-        requires names { NamesSector (known_of held.now.ecc) held.now.ecc.head.parity layer answer.now }
-        ensures restored { OnOk result (self.new.restored.items ≡ self.old.restored.items ++ is_restored answer.now ∷ []) }
-        ensures strange { OnOk result (self.new.strange.items ≡ self.old.strange.items ++ strange_in (known_of held.now.ecc) held.now.ecc.head.parity layer answer.now) }
+        requires layer { IsLayer held.now layer }
+        requires names { NamesSector (fields_in held.now) layer answer.now }
+        ensures restored { OnOk result (self.new.restored.items
+            ≡ self.old.restored.items ++ is_restored answer.now ∷ []) }
+        ensures strange { OnOk result (self.new.strange.items
+            ≡ self.old.strange.items ++ strange_in (fields_in held.now) layer answer.now) }
     {
         self.restored.push(layer_is_restored(answer))?;
-        match strange_of(held, layer, answer) {
-            Some(strange) => {
-                self.strange.push(strange)?;
-                Ok(())
-            }
-            None => Ok(()),
+        if let Some(strange) = strange_of(held, layer, answer) {
+            self.strange.push(strange)?;
         }
+        Ok(())
     }
 }
 
@@ -171,45 +132,27 @@ pub fn repair_layers<D: Desk>(
     held: &Held,
 ) -> Result<Repairs, FixRefusal>
     requires { image.now ≢ ecc.now }
-    ensures tells { D.tells desk.new ≡ D.tells desk.old }
-    ensures elsewhere { IsTrue (D.tells desk.old) → SameElsewhere image.now (D.files desk.old) (D.files desk.new) }
-    ensures restored { (e : List ℕ) → IsTrue (D.tells desk.old) → bytes_of (D.files desk.old) ecc.now ≡ e
-        → length e ≡ file_size held.now.ecc.head.sectors held.now.ecc.head.parity
-        → IfOk result (λ repairs. repairs.restored.items
-        ≡ map (λ l. is_restored (layer_answer (known_of held.now.ecc) e held.now.image.items held.now.ecc.head.parity l)) (range_with_len 0 (layers_of held.now.ecc.head.sectors held.now.ecc.head.parity))) }
-    ensures strange { (e : List ℕ) → IsTrue (D.tells desk.old) → bytes_of (D.files desk.old) ecc.now ≡ e
-        → length e ≡ file_size held.now.ecc.head.sectors held.now.ecc.head.parity
-        → IfOk result (λ repairs. repairs.strange.items
-        ≡ strange_by (known_of held.now.ecc) held.now.ecc.head.parity (layer_answer (known_of held.now.ecc) e held.now.image.items held.now.ecc.head.parity)) }
-    ensures len { IfOk result (λ repairs. length repairs.restored.items ≡ layers_of held.now.ecc.head.sectors held.now.ecc.head.parity) }
-    ensures done { (e : List ℕ) → IsTrue (D.tells desk.old) → bytes_of (D.files desk.old) ecc.now ≡ e
-        → length e ≡ file_size held.now.ecc.head.sectors held.now.ecc.head.parity → D.files desk.old image.now ≡ Some held.now.image.items
-        → OnOk result (D.files desk.new image.now
-        ≡ Some (fixed_by (known_of held.now.ecc) held.now.image.items held.now.ecc.head.parity (layer_answer (known_of held.now.ecc) e held.now.image.items held.now.ecc.head.parity) false)) }
-    ensures left { (e : List ℕ) (cut : Bool) → IsTrue (D.tells desk.old) → bytes_of (D.files desk.old) ecc.now ≡ e
-        → length e ≡ file_size held.now.ecc.head.sectors held.now.ecc.head.parity → D.files desk.old image.now ≡ Some held.now.image.items
-        → IsOnTheWay (known_of held.now.ecc) held.now.image.items held.now.ecc.head.parity (layer_answer (known_of held.now.ecc) e held.now.image.items held.now.ecc.head.parity) cut (D.files desk.new image.now) }
-    ensures read_fault { result ≡ Err FixRefusal.ReadFault → Rose (D.read_faults desk.old) (D.read_faults desk.new) }
-    ensures write_fault { result ≡ Err FixRefusal.WriteFault → Rose (D.write_faults desk.old) (D.write_faults desk.new) }
-    ensures reads { result ≢ Err FixRefusal.ReadFault → D.read_faults desk.new ≡ D.read_faults desk.old }
-    ensures writes { result ≢ Err FixRefusal.WriteFault → D.write_faults desk.new ≡ D.write_faults desk.old }
-    ensures reads_later { D.read_faults desk.old ≤ D.read_faults desk.new }
-    ensures writes_later { D.write_faults desk.old ≤ D.write_faults desk.new }
-    ensures causes { IfErr result (λ why. (why ≡ FixRefusal.ReadFault) ⊎ ((why ≡ FixRefusal.WriteFault) ⊎ (why ≡ FixRefusal.OutOfMemory))) }
+    ensures works { WorksOn image.now (D.state desk.old) (D.state desk.new)
+        (is_read_fault result) (is_write_fault result) }
+    ensures len { let n = layers_of held.now.ecc.head.sectors held.now.ecc.head.parity in
+        IfOk result (λ repairs. length repairs.restored.items ≡ n) }
+    ensures kept { (e : List ℕ) → HasEcc held.now e (D.state desk.old) ecc.now
+        → let n = layers_of held.now.ecc.head.sectors held.now.ecc.head.parity in IfOk result
+        (λ repairs. AreKept held.now (recorded_in held.now e) n
+        repairs.restored.items repairs.strange.items) }
+    ensures put { (e : List ℕ) → HasEcc held.now e (D.state desk.old) ecc.now
+        → let recorded = recorded_in held.now e in
+        Leads (IsFound held.now) (IsRepaired held.now recorded false)
+        (IsEitherWay held.now recorded) image.now (D.state desk.old) (D.state desk.new) result }
+    ensures causes { IfErr result IsOfRepair }
 {
     let mut repairs = Repairs {
         restored: Vec::new(alloc),
         strange: Vec::new(alloc),
     };
     for layer in 0..held.ecc.shape().layers() {
-        let answer = match repair_layer(alloc, desk, image, ecc, held, layer) {
-            Ok(answer) => answer,
-            Err(why) => return Err(why),
-        };
-        match repairs.add(held, layer, &answer) {
-            Ok(()) => {}
-            Err(_) => return Err(FixRefusal::OutOfMemory),
-        }
+        let answer = repair_layer(alloc, desk, image, ecc, held, layer)?;
+        repairs.add(held, layer, &answer)?;
     }
     Ok(repairs)
 }

@@ -1,19 +1,21 @@
 //! What is told of a repaired image.
-ghost use Rattle.std.specs.Prelude.{◌≡◌, ◌<◌, ◌++◌, ◌∷◌, [], Bool, IfOk, OnOk, if◌then◌else◌, length, map, not, ◌&&◌, nat_lt, ℕ};
+ghost use Rattle.std.specs.Prelude.{◌≡◌, ◌<◌, ◌&&◌, ◌++◌, ◌∷◌, [], if◌then◌else◌, IfOk, List, OnOk, filter, length, nat_lt, ℕ};
 ghost use Rattle.std.specs.List.{range_with_len};
 ghost use Rattle.rs01_layers.specs.Layout.{layers_of};
-ghost use Rattle.rs01_layers.specs.declared.task.LayerOut.{LayerOut};
 ghost use Rattle.rs01_ecchead.specs.Erased.{image_len, known_of};
-ghost use Rattle.rs01_fix.specs.Repair.{is_lost, is_mended, is_restored, lost_by, report_by, restored_by, strange_by};
+ghost use Rattle.rs01_repair.specs.Holding.{said};
+ghost use Rattle.rs01_fix.specs.Repair.{report_of};
+ghost use Rattle.rs01_fix.specs.Steps.{AreKept, FlagLayers, is_told};
 
-use crate::held::Held;
 use crate::repair::Repairs;
+use rs01_repair::Held;
 use rs01_report::{FixReport, SectorList, StrangeList};
 use std::alloc::{AllocError, Global};
 
 // Puts a sector behind a list where it belongs there.
 fn push_if(list: &mut Vec<u32>, belongs: bool, sector: u32) -> Result<(), AllocError>
-    ensures { OnOk result (list.new.items ≡ list.old.items ++ (if belongs then sector ∷ [] else [])) }
+    ensures { OnOk result (list.new.items
+        ≡ list.old.items ++ (if belongs then sector ∷ [] else [])) }
 {
     if belongs {
         list.push(sector)?;
@@ -23,59 +25,42 @@ fn push_if(list: &mut Vec<u32>, belongs: bool, sector: u32) -> Result<(), AllocE
     }
 }
 
-// Whether a sector is mended, by the flags of the restored layers.
-fn is_mended_by(held: &Held, restored: &[bool], sector: u32) -> bool
+// Whether a sector is told as restored, or as lost, by the flags of the restored layers.
+fn belongs(held: &Held, flags: &[bool], restored: bool, sector: u32) -> bool
     requires sector { sector < held.now.ecc.head.sectors }
-    requires layers { length restored.now ≡ layers_of held.now.ecc.head.sectors held.now.ecc.head.parity }
-    ensures { (answers : ℕ → LayerOut)
-        → restored.now ≡ map (λ l. is_restored (answers l)) (range_with_len 0 (layers_of held.now.ecc.head.sectors held.now.ecc.head.parity))
-        → result ≡ is_mended (known_of held.now.ecc) held.now.image.items held.now.ecc.head.parity answers sector }
+    requires layers { length flags.now
+        ≡ layers_of held.now.ecc.head.sectors held.now.ecc.head.parity }
+    ensures { (recorded : ℕ → ℕ → List ℕ) → FlagLayers held.now recorded flags.now
+        → result ≡ is_told restored held.now recorded sector }
 {
-    held.is_erased(sector) && restored[held.ecc.shape().layer_of(sector) as usize]
+    let is_restored = flags[held.ecc.shape().layer_of(sector) as usize];
+    held.is_erased(sector) && if restored { is_restored } else { !is_restored }
 }
 
-// Whether a sector is lost, by the flags of the restored layers.
-fn is_lost_by(held: &Held, restored: &[bool], sector: u32) -> bool
-    requires sector { sector < held.now.ecc.head.sectors }
-    requires layers { length restored.now ≡ layers_of held.now.ecc.head.sectors held.now.ecc.head.parity }
-    ensures { (answers : ℕ → LayerOut)
-        → restored.now ≡ map (λ l. is_restored (answers l)) (range_with_len 0 (layers_of held.now.ecc.head.sectors held.now.ecc.head.parity))
-        → result ≡ is_lost (known_of held.now.ecc) held.now.image.items held.now.ecc.head.parity answers sector }
-{
-    held.is_erased(sector) && !is_mended_by(held, restored, sector)
-}
-
-// The mended sectors, rising.
-fn mended_sectors(alloc: Global, held: &Held, restored: &[bool]) -> Result<Vec<u32>, AllocError>
-    requires { length restored.now ≡ layers_of held.now.ecc.head.sectors held.now.ecc.head.parity }
-    ensures { (answers : ℕ → LayerOut)
-        → restored.now ≡ map (λ l. is_restored (answers l)) (range_with_len 0 (layers_of held.now.ecc.head.sectors held.now.ecc.head.parity))
-        → IfOk result (λ list. list.items ≡ restored_by (known_of held.now.ecc) held.now.image.items held.now.ecc.head.parity answers) }
+// The sectors that are told as restored, or as lost, rising.
+fn told_sectors(
+    alloc: Global,
+    held: &Held,
+    flags: &[bool],
+    restored: bool,
+) -> Result<SectorList, AllocError>
+    requires { length flags.now
+        ≡ layers_of held.now.ecc.head.sectors held.now.ecc.head.parity }
+    ensures { (recorded : ℕ → ℕ → List ℕ) → FlagLayers held.now recorded flags.now
+        → IfOk result (λ list. list ≡ filter (is_told restored held.now recorded)
+        (range_with_len 0 held.now.ecc.head.sectors)) }
 {
     let mut list = Vec::new(alloc);
     for sector in 0..held.ecc.head().sectors {
-        push_if(&mut list, is_mended_by(held, restored, sector), sector)?;
+        push_if(&mut list, belongs(held, flags, restored, sector), sector)?;
     }
-    Ok(list)
-}
-
-// The lost sectors, rising.
-fn lost_sectors(alloc: Global, held: &Held, restored: &[bool]) -> Result<Vec<u32>, AllocError>
-    requires { length restored.now ≡ layers_of held.now.ecc.head.sectors held.now.ecc.head.parity }
-    ensures { (answers : ℕ → LayerOut)
-        → restored.now ≡ map (λ l. is_restored (answers l)) (range_with_len 0 (layers_of held.now.ecc.head.sectors held.now.ecc.head.parity))
-        → IfOk result (λ list. list.items ≡ lost_by (known_of held.now.ecc) held.now.image.items held.now.ecc.head.parity answers) }
-{
-    let mut list = Vec::new(alloc);
-    for sector in 0..held.ecc.head().sectors {
-        push_if(&mut list, is_lost_by(held, restored, sector), sector)?;
-    }
-    Ok(list)
+    Ok(SectorList::of(list))
 }
 
 // Whether bytes past the image are cut.
 pub fn is_cut(held: &Held, cut: bool) -> bool
-    ensures { result ≡ (cut && nat_lt (image_len (known_of held.now.ecc)) (length held.now.image.items)) }
+    ensures { let len = image_len (known_of held.now.ecc) in
+        result ≡ (cut && nat_lt len (length held.now.image.items)) }
 {
     cut && held.ecc.extent().image_len() < held.image.len() as u64
 }
@@ -87,19 +72,20 @@ pub fn report(
     repairs: Repairs,
     cut: bool,
 ) -> Result<FixReport, AllocError>
-    requires { length repairs.restored.items ≡ layers_of held.now.ecc.head.sectors held.now.ecc.head.parity }
-    ensures { (answers : ℕ → LayerOut)
-        → repairs.restored.items ≡ map (λ l. is_restored (answers l)) (range_with_len 0 (layers_of held.now.ecc.head.sectors held.now.ecc.head.parity))
-        → repairs.strange.items ≡ strange_by (known_of held.now.ecc) held.now.ecc.head.parity answers
-        → IfOk result (λ told. told ≡ report_by (known_of held.now.ecc) held.now.image.items held.now.ecc.head.parity answers cut) }
+    requires { length repairs.restored.items
+        ≡ layers_of held.now.ecc.head.sectors held.now.ecc.head.parity }
+    ensures { (recorded : ℕ → ℕ → List ℕ)
+        → let n = layers_of held.now.ecc.head.sectors held.now.ecc.head.parity in
+        AreKept held.now recorded n repairs.restored.items repairs.strange.items
+        → IfOk result (λ told. told ≡ report_of (said held.now recorded) held.now.image.items cut) }
 {
     let Repairs { restored, strange } = repairs;
-    let mended = mended_sectors(alloc, held, &restored)?;
-    let lost = lost_sectors(alloc, held, &restored)?;
+    let mended = told_sectors(alloc, held, &restored, true)?;
+    let lost = told_sectors(alloc, held, &restored, false)?;
     let len = held.ecc.extent().image_len();
     Ok(FixReport {
-        restored: SectorList::of(mended),
-        lost: SectorList::of(lost),
+        restored: mended,
+        lost,
         strange: StrangeList::of(strange),
         surplus: (held.image.len() as u64).saturating_sub(len),
         cut: is_cut(held, cut),

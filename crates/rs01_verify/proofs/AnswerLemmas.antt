@@ -1,52 +1,56 @@
 -- What is answered, from what was found of the two files.
-use Rattle.std.proofs.Common.{◌≡◌, ℕ, List, [], length, sym, ap, subst, ◌∙◌}
+use Rattle.std.proofs.Common.{◌≡◌, ℕ, List, [], length, sym, ap, ◌∙◌}
 use Rattle.std.specs.Prelude.{Option, Some, None, Result, Ok, Err}
 use Rattle.std.specs.Option.{option_map, unwrap_or}
 use Rattle.rs01_outside.specs.Files.{Files, bytes_of}
-use Rattle.rs01_ecchead.specs.Header.{Fields}
-use Rattle.rs01_ecchead.specs.Opened.{IsOfFile, opened_file}
-use Rattle.rs01_ecchead.specs.Erased.{Known, known_by}
+use Rattle.rs01_ecchead.specs.Opened.{IsOfFile, Opened, opened_file}
+use Rattle.rs01_ecchead.specs.Opening.{Opens}
 use Rattle.rs01_ecchead.specs.declared.opened.EccRefusal.{EccRefusal}
 use Rattle.rs01_ecchead.specs.declared.opened.EccRefusal.TheVariants as ecc
 use Rattle.rs01_ecchead.specs.declared.opened.Which.TheVariants.{Image}
 use Rattle.rs01_report.specs.declared.reports.VerifyReport.{VerifyReport}
 use Rattle.rs01_verify.specs.Report.{report_of}
-use Rattle.rs01_verify.specs.Answer.{IsOfFiles, answer_with, refusal_of, verify_answer}
+use Rattle.rs01_verify.specs.Answer.{IsAnswerOf, answer_with, verify_answer}
+use Rattle.rs01_verify.specs.Refusal.{IsOfFiles, refusal_of}
 use Rattle.rs01_verify.specs.declared.refusal.VerifyRefusal.{VerifyRefusal}
 use Rattle.rs01_verify.specs.declared.refusal.VerifyRefusal.TheVariants.{NoFile}
 
-refused_with : (file image : Option (List ℕ)) (why : EccRefusal) (told : VerifyRefusal) → told ≡ refusal_of why → opened_file file ≡ Err why
-    → verify_answer file image ≡ Err told
+abbrev Answer : Type 0
+Answer = Result VerifyReport VerifyRefusal
+
+-- a refusal that comes from the files, where the error correction file was refused
+of_file : (why : EccRefusal) → IsOfFiles (refusal_of why) → IsOfFile why
+of_file ecc.NoFile of = tt
+of_file (ecc.Head w) of = tt
+of_file (ecc.Size have want) of = tt
+of_file (ecc.Body have want) of = tt
+of_file ecc.ReadFault of = absurd of
+of_file ecc.OutOfMemory of = absurd of
+
+refused_with : (file image : Option (List ℕ)) (why : EccRefusal) → opened_file file ≡ Err why → verify_answer file image ≡ Err (refusal_of why)
 unfolding answer_with
-refused_with file image why told e opened =
-    ap (λ (o : Result Fields EccRefusal). answer_with o (unwrap_or file []) image) opened ∙ ap (λ (r : VerifyRefusal). Err r) (sym e)
+refused_with file image why opened = ap (λ (o : Result Opened EccRefusal). answer_with o image) opened
 
 -- the error correction file isn't opened
-pub by_ecc : (file image : Option (List ℕ)) (why : EccRefusal) (told : VerifyRefusal) → told ≡ refusal_of why → IsOfFiles told
-    → (IsOfFile why → opened_file file ≡ Err why) → verify_answer file image ≡ Err told
-by_ecc file image ecc.NoFile told e of h = refused_with file image ecc.NoFile told e (h tt)
-by_ecc file image (ecc.Head w) told e of h = refused_with file image (ecc.Head w) told e (h tt)
-by_ecc file image (ecc.Size have want) told e of h = refused_with file image (ecc.Size have want) told e (h tt)
-by_ecc file image (ecc.Body have want) told e of h = refused_with file image (ecc.Body have want) told e (h tt)
-by_ecc file image ecc.ReadFault told e of h = absurd (subst IsOfFiles e of)
-by_ecc file image ecc.OutOfMemory told e of h = absurd (subst IsOfFiles e of)
+pub by_ecc : (file image : Option (List ℕ)) (answer : Answer) (told : VerifyRefusal) (why : EccRefusal) → answer ≡ Err told → told ≡ refusal_of why
+    → Opens file (Err why) → IsAnswerOf file image answer
+by_ecc file image answer told why is from opens = rw (is, from) (λ of. refused_with file image why (opens (of_file why of)))
 
--- it is, and the image isn't there
-pub by_no_image : (file image : Option (List ℕ)) (fields : Fields) → opened_file file ≡ Ok fields → None ≡ option_map length image
+-- the image isn't there
+pub by_no_image : (file image : Option (List ℕ)) (c : Opened) (size : Option ℕ) → opened_file file ≡ Ok c → ((n : ℕ) → size ≡ Some n → ⊥)
+    → size ≡ option_map length image
     → verify_answer file image ≡ Err (NoFile Image)
 unfolding answer_with
-by_no_image file None fields opened e = ap (λ (o : Result Fields EccRefusal). answer_with o (unwrap_or file []) None) opened
-by_no_image file (Some y) fields opened e = cc
+by_no_image file None c size opened none e = ap (λ (o : Result Opened EccRefusal). answer_with o None) opened
+by_no_image file (Some y) c size opened none e = absurd (none (length y) e)
 
 -- both are there
-pub by_report : (file image : Option (List ℕ)) (fields : Fields) (n : ℕ) (known : Known) (report : VerifyReport) → opened_file file ≡ Ok fields
-    → Some n ≡ option_map length image → known ≡ known_by fields (unwrap_or file []) → report ≡ report_of fields known (unwrap_or image [])
-    → verify_answer file image ≡ Ok report
+pub by_report : (file image : Option (List ℕ)) (c : Opened) (n : ℕ) (report : VerifyReport) → opened_file file ≡ Ok c
+    → Some n ≡ option_map length image → report ≡ report_of c (unwrap_or image []) → verify_answer file image ≡ Ok report
 unfolding answer_with
-by_report file None fields n known report opened e k r = cc
-by_report file (Some y) fields n known report opened e k r =
-    ap (λ (o : Result Fields EccRefusal). answer_with o (unwrap_or file []) (Some y)) opened
-    ∙ ap (λ (v : VerifyReport). Ok v) (ap (λ (w : Known). report_of fields w y) (sym k) ∙ sym r)
+by_report file None c n report opened e r = cc
+by_report file (Some y) c n report opened e r =
+    ap (λ (o : Result Opened EccRefusal). answer_with o (Some y)) opened ∙ ap (λ (v : VerifyReport). let a : Answer = Ok v in a) (sym r)
 
 -- what a file's size says, when the files were still the same
 size_is : (o : Option (List ℕ)) (n : ℕ) → Some n ≡ option_map length o → n ≡ length (unwrap_or o [])

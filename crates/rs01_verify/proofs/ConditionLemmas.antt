@@ -1,32 +1,12 @@
--- How a sector was found, by the tests of the image file.
+-- What a sector adds to the lists and counts, by the tests of the image file.
 use Rattle.std.proofs.Common.{◌≡◌, ℕ, List, [], ◌∷◌, refl, Bool, true, false, cond}
-use Rattle.std.specs.Prelude.{not, ◌&&◌, ◌||◌, Option, IsTrue, slice_index, slice_set, ◌+◌}
-use Rattle.std.specs.Str.{bytes_eq}
-use Rattle.rs01_sums.specs.Marker.{marker}
-use Rattle.rs01_sums.specs.Usable.{is_usable}
-use Rattle.rs01_ecchead.specs.Erased.{Known, block_in, is_absent, is_altered, is_erased, is_missing}
-use Rattle.rs01_ecchead.proofs.ErasedLemmas.{missing_is_erased, unusable}
-use Rattle.rs01_verify.specs.declared.condition.Condition.TheVariants.{Altered, Missing, Sound}
-use Rattle.rs01_verify.specs.Condition.{condition_of, judged, missing_part, altered_part, counts_after}
+use Rattle.std.specs.Prelude.{not, ◌&&◌, slice_index, slice_set, ◌+◌}
+use Rattle.rs01_ecchead.specs.Condition.{condition_of}
+use Rattle.rs01_ecchead.specs.Erased.{Known, is_altered, is_erased, is_missing}
+use Rattle.rs01_ecchead.specs.declared.condition.Condition.TheVariants.{Altered, Missing, Sound}
+use Rattle.rs01_ecchead.proofs.ErasedLemmas.{missing_is_erased}
+use Rattle.rs01_verify.specs.Tallied.{altered_part, counts_after, missing_part}
 
--- the three tests, from whether a sector is absent, whether its block is its marker, and whether the block is usable
-by_tests : (absent marked usable : Bool) → (marked ≡ true → usable ≡ false)
-    → cond (absent || marked) Missing (cond usable Sound Altered)
-    ≡ cond (absent || marked) Missing (cond ((absent || not usable) && not (absent || marked)) Altered Sound)
-by_tests true marked usable h = refl
-by_tests false true usable h = refl
-by_tests false false true h = refl
-by_tests false false false h = refl
-
--- a block is judged as the tests of the file say
-pub judged_is : (known : Known) (y : List ℕ) (s : ℕ) (there : Bool) (sums : Option (List ℕ)) (b : List ℕ) → sums ≡ known.sums
-    → is_absent known y s ≡ not there → (IsTrue there → b ≡ block_in known y s) → judged there sums s b ≡ condition_of known y s
-unfolding is_missing is_altered is_erased
-judged_is known y s true sums b e absent same =
-    rw (same refl, e, absent) (by_tests false (bytes_eq (block_in known y s) (marker s)) (is_usable known.sums s (block_in known y s)) (unusable (bytes_eq (block_in known y s) (marker s)) _))
-judged_is known y s false sums b e absent same = rw absent refl
-
--- what a sector adds to the lists and to the counts, by the tests
 missing_part_by : (missing altered : Bool) (s : ℕ) → missing_part (cond missing Missing (cond altered Altered Sound)) s ≡ cond missing (s ∷ []) []
 missing_part_by true altered s = refl
 missing_part_by false true s = refl

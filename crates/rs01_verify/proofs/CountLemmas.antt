@@ -1,5 +1,5 @@
 -- Lists and counts of the sectors that were looked at, one sector more at a time.
-use Rattle.std.proofs.Common.{◌≡◌, ℕ, ◌+◌, ◌<◌, ◌≤◌, List, [], ◌∷◌, ◌++◌, length, map, get_or, set, sym, ap, ◌∙◌, arith, Bool, true, false, cond, eqb, add-one, ⊎_elim, count_by, get_or-set_other, length-set}
+use Rattle.std.proofs.Common.{◌≡◌, ℕ, ◌+◌, ◌<◌, List, [], ◌∷◌, ◌++◌, length, map, get_or, set, sym, ap, ◌∙◌, arith, Bool, true, false, cond, eqb, add-one, ⊎_elim, count_by, get_or-set_other, length-set}
 use Rattle.std.specs.Prelude.{filter, ◌&&◌, ◌==◌, slice_index, slice_set}
 use Rattle.std.specs.List.{range_with_len}
 use Rattle.std.proofs.lemmas.Bool.{cases_eq, eq-eqb, ne_eqb}
@@ -7,10 +7,7 @@ use Rattle.std.proofs.lemmas.Grind.{get_or-set_at}
 use Rattle.std.proofs.lemmas.List.Elements.{filter-append}
 use Rattle.std.proofs.lemmas.List.FromFn.{fill_by_all, length-map-range_with_len, get_or-map-range_with_len}
 use Rattle.std.proofs.lemmas.List.Sums.{sum_by_push}
-use Rattle.rs01_ecchead.proofs.Ranges.{range_with_len_more}
-use Rattle.rs01_verify.specs.declared.condition.Condition.{Condition}
-use Rattle.rs01_verify.specs.declared.condition.Condition.TheVariants.{Altered, Missing, Sound}
-use Rattle.rs01_verify.specs.Condition.{counts_after}
+use Rattle.rs01_lists.proofs.Ranges.{range_with_len_more}
 
 range_more : (n : ℕ) → range_with_len 0 (n + 1) ≡ range_with_len 0 n ++ n ∷ []
 range_more n =
@@ -49,22 +46,3 @@ raised true l layers before old new within held put =
     put ∙ fill_by_all (λ k. before k + cond (eqb l k) 1 0) (set old l (get_or old l 0 + 1)) layers 0
     (length-set old l (get_or old l 0 + 1) ∙ ap length held ∙ length-map-range_with_len before 0 layers)
     (raised_at l layers before old within held)
-
--- the counts stay as many, and grow by one at most
-pub counted_all : (found : Condition) (l layers : ℕ) (old new : List ℕ) → new ≡ counts_after found l old → length old ≡ layers → length new ≡ layers
-counted_all Sound l layers old new put long = ap length put ∙ long
-counted_all Missing l layers old new put long = ap length put ∙ length-set old l (get_or old l 0 + 1) ∙ long
-counted_all Altered l layers old new put long = ap length put ∙ length-set old l (get_or old l 0 + 1) ∙ long
-
-raised_bound : (l n : ℕ) (old : List ℕ) → l < length old → ((k : ℕ) → get_or old k 0 ≤ n) → (k : ℕ) → get_or (set old l (get_or old l 0 + 1)) k 0 ≤ n + 1
-raised_bound l n old within bound k =
-    ⊎_elim
-    (λ same. omega (arith, get_or-set_at old l k (get_or old l 0 + 1) 0 (sym same) within, bound l))
-    (λ apart. omega (arith, get_or-set_other old l k (get_or old l 0 + 1) 0 (λ e. apart (sym e)), bound k))
-    (cases_eq l k)
-
-pub counted_bound : (found : Condition) (l n : ℕ) (old new : List ℕ) → new ≡ counts_after found l old → l < length old → ((k : ℕ) → get_or old k 0 ≤ n)
-    → (k : ℕ) → get_or new k 0 ≤ n + 1
-counted_bound Sound l n old new put within bound k = omega (arith, ap (λ xs. get_or xs k 0) put, bound k)
-counted_bound Missing l n old new put within bound k = omega (arith, ap (λ xs. get_or xs k 0) put, raised_bound l n old within bound k)
-counted_bound Altered l n old new put within bound k = omega (arith, ap (λ xs. get_or xs k 0) put, raised_bound l n old within bound k)

@@ -1,5 +1,6 @@
-pub mod Answer
-pub mod Condition
+pub mod Refusal
+pub mod Tallied
 pub mod Fullness
 pub mod Report
+pub mod Answer
 pub mod Surveyed

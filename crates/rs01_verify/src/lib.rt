@@ -1,7 +1,6 @@
 //! Checking an image against its error correction file.
 #![tactic(auto)]
 
-mod condition;
 mod fullest;
 mod marks;
 mod refusal;
@@ -11,6 +10,3 @@ mod verifying;
 
 pub use refusal::VerifyRefusal;
 pub use verifying::verify;
-
-#[cfg(test)]
-mod tests;

@@ -28,7 +28,8 @@ pub fn fingerprint_after(
     block: &[u8; 2048],
     before: Mark,
 ) -> Mark
-    ensures { result ≡ (if there && (sector == head.now.mark_sector) then mark_of block.now head.now.fingerprint else before) }
+    ensures { result ≡ (if there && (sector == head.now.mark_sector)
+        then mark_of block.now head.now.fingerprint else before) }
 {
     if there && sector == head.mark_sector {
         compare(&Md5::digest(block), &head.fingerprint)
@@ -40,7 +41,8 @@ pub fn fingerprint_after(
 // The mark of an image file of `size` bytes whose first `len` bytes, where it isn't shorter, are in a digest.
 pub fn image_mark_of(head: &Head, size: u64, len: u64, hasher: Md5) -> Mark
     ensures short { size < len → result ≡ Mark.Absent }
-    ensures digest { len ≤ size → (bytes : List ℕ) → Holds hasher bytes → result ≡ mark_of bytes head.now.image_sum }
+    ensures digest { len ≤ size → (bytes : List ℕ) → Holds hasher bytes
+        → result ≡ mark_of bytes head.now.image_sum }
 {
     let digest = hasher.finalize();
     if size < len {

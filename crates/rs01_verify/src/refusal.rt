@@ -1,8 +1,8 @@
 //! Why an image wasn't checked.
 ghost use Rattle.std.specs.Prelude.{◌≡◌};
-ghost use Rattle.rs01_verify.specs.Answer.{refusal_of};
 
-use rs01_ecchead::{EccRefusal, HeadRefusal, Which};
+use rs01_ecchead::{EccRefusal, HeadRefusal, WalkFault, Which};
+use rs01_outside::Failed;
 use thiserror::Error;
 
 /// Why an image wasn't checked. The first four are told in the order of the reading: the error correction file that
@@ -30,16 +30,42 @@ pub enum VerifyRefusal {
     OutOfMemory,
 }
 
-// What is told where the error correction file isn't opened.
-pub fn refusal_for(why: EccRefusal) -> VerifyRefusal
-    ensures { result ≡ refusal_of why }
-{
-    match why {
-        EccRefusal::NoFile => VerifyRefusal::NoFile(Which::Ecc),
-        EccRefusal::Head(why) => VerifyRefusal::Head(why),
-        EccRefusal::Size { have, want } => VerifyRefusal::Size { have, want },
-        EccRefusal::Body { have, want } => VerifyRefusal::Body { have, want },
-        EccRefusal::ReadFault => VerifyRefusal::ReadFault,
-        EccRefusal::OutOfMemory => VerifyRefusal::OutOfMemory,
+impl From<EccRefusal> for VerifyRefusal {
+    ghost use Rattle.rs01_verify.specs.Refusal.{refusal_of};
+
+    ghost from_gives = { λ of why. why ≡ refusal_of of };
+
+    fn from(why: EccRefusal) -> VerifyRefusal {
+        match why {
+            EccRefusal::NoFile => VerifyRefusal::NoFile(Which::Ecc),
+            EccRefusal::Head(why) => VerifyRefusal::Head(why),
+            EccRefusal::Size { have, want } => VerifyRefusal::Size { have, want },
+            EccRefusal::Body { have, want } => VerifyRefusal::Body { have, want },
+            EccRefusal::ReadFault => VerifyRefusal::ReadFault,
+            EccRefusal::OutOfMemory => VerifyRefusal::OutOfMemory,
+        }
+    }
+}
+
+impl From<WalkFault> for VerifyRefusal {
+    ghost use Rattle.rs01_verify.specs.Refusal.{walk_refusal};
+
+    ghost from_gives = { λ of why. why ≡ walk_refusal of };
+
+    fn from(why: WalkFault) -> VerifyRefusal {
+        match why {
+            WalkFault::ReadFault => VerifyRefusal::ReadFault,
+            WalkFault::OutOfMemory => VerifyRefusal::OutOfMemory,
+        }
+    }
+}
+
+impl From<Failed> for VerifyRefusal {
+    ghost use Rattle.rs01_verify.specs.declared.refusal.VerifyRefusal.TheVariants.{ReadFault};
+
+    ghost from_gives = { λ _ why. why ≡ ReadFault };
+
+    fn from(_failed: Failed) -> VerifyRefusal {
+        VerifyRefusal::ReadFault
     }
 }

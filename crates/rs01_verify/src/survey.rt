@@ -1,25 +1,16 @@
 //! Looking at all sectors of an image, once and in rising order.
-ghost use Rattle.std.specs.Prelude.{◌≡◌, ◌≢◌, ◌⊎◌, ◌+◌, ◌*◌, ◌<◌, ◌≤◌, ◌↔◌, ◌++◌, Err, IfErr, IfOk, IsTrue, List, OnOk, length, ℕ};
+ghost use Rattle.std.specs.Prelude.{◌≡◌, ◌≤◌, ◌++◌, IfOk, IsTrue, List, length, take, ℕ};
 ghost use Rattle.md5.specs.Md5.{Holds};
-ghost use Rattle.rs01_outside.specs.Causes.{HasCause, Rose};
-ghost use Rattle.rs01_outside.specs.Files.{bytes_of};
-ghost use Rattle.rs01_layers.specs.Layout.{layers_of};
-ghost use Rattle.rs01_layers.specs.Sectors.{block, length_of};
-ghost use Rattle.rs01_ecchead.specs.Erased.{known_of};
-ghost use Rattle.rs01_ecchead.specs.Head.{fields_of};
-ghost use Rattle.rs01_ecchead.specs.Header.{part};
-ghost use Rattle.rs01_verify.specs.Surveyed.{IsCounted, Surveyed};
+ghost use Rattle.rs01_outside.specs.DeskState.{InFile, OnlyReads};
+ghost use Rattle.rs01_ecchead.specs.Walked.{is_walk_fault};
 
-use crate::condition::judge;
 use crate::marks::fingerprint_after;
-use crate::refusal::VerifyRefusal;
 use crate::tally::Tally;
 use md5::{Digest, Md5};
-use rs01_ecchead::{Ecc, sector_in};
-use rs01_layers::Extent;
-use rs01_outside::{Desk, Failed};
+use rs01_ecchead::{Ecc, Visitor, WalkFault, judge, walk_image};
+use rs01_outside::Desk;
 use rs01_report::Mark;
-use std::alloc::Global;
+use std::alloc::{AllocError, Global};
 
 // What is kept of the sectors that were looked at: the erased ones, a digest of their bytes, and the mark of the
 // fingerprint, which is absent until its sector comes.
@@ -30,79 +21,67 @@ pub struct Survey {
     pub fingerprint: Mark,
 }
 
-// Reads a sector, and adds its bytes to a digest where it is there.
-fn take_sector<D: Desk>(
-    desk: &mut D,
-    name: &str,
-    size: u64,
-    extent: &Extent,
-    sector: u32,
-    into: &mut [u8; 2048],
-    hasher: &mut Md5,
-) -> Result<bool, Failed>
-    requires { sector < extent.now.sectors }
-    ensures tells { D.tells desk.new ≡ D.tells desk.old }
-    ensures unchanged { IsTrue (D.tells desk.old) → D.files desk.new ≡ D.files desk.old }
-    ensures there { IfOk result (λ there. IsTrue there ↔ (2048 * sector + length_of extent.now.sectors extent.now.last_bytes sector ≤ size)) }
-    ensures block { IsTrue (D.tells desk.old) → size ≡ length (bytes_of (D.files desk.old) name.now)
-        → IfOk result (λ there. IsTrue there → into.new ≡ block (bytes_of (D.files desk.old) name.now) sector (length_of extent.now.sectors extent.now.last_bytes sector)) }
-    ensures held { IsTrue (D.tells desk.old) → size ≡ length (bytes_of (D.files desk.old) name.now)
-        → IfOk result (λ there. IsTrue there → (m : List ℕ) → Holds hasher.old m
-        → Holds hasher.new (m ++ part (bytes_of (D.files desk.old) name.now) (2048 * sector) (length_of extent.now.sectors extent.now.last_bytes sector))) }
-    ensures cause { HasCause (D.read_faults desk.old) (D.read_faults desk.new) result }
-    ensures writes { D.write_faults desk.new ≡ D.write_faults desk.old }
-{
-    let there = sector_in(desk, name, size, extent, sector, into)?;
-    if there {
-        hasher.update(&into[..extent.length(sector) as usize]);
-    }
-    Ok(there)
+// Looks at the sectors of an image by its error correction file.
+#[derive(Drop)]
+pub struct Surveyor {
+    pub ecc: Ecc,
 }
 
-// Looks at the next sector.
-fn look<D: Desk>(
-    desk: &mut D,
-    name: &str,
-    size: u64,
-    ecc: &Ecc,
-    sector: u32,
-    survey: &mut Survey,
-) -> Result<(), VerifyRefusal>
-    requires sector { sector < ecc.now.head.sectors }
-    requires counted { IsCounted (layers_of ecc.now.head.sectors ecc.now.head.parity) sector survey.old.tally }
-    ensures tells { D.tells desk.new ≡ D.tells desk.old }
-    ensures unchanged { IsTrue (D.tells desk.old) → D.files desk.new ≡ D.files desk.old }
-    ensures counted { OnOk result (IsCounted (layers_of ecc.now.head.sectors ecc.now.head.parity) (sector + 1) survey.new.tally) }
-    ensures surveyed { IsTrue (D.tells desk.old) → size ≡ length (bytes_of (D.files desk.old) name.now)
-        → Surveyed (fields_of ecc.now.head) (known_of ecc.now) (bytes_of (D.files desk.old) name.now) sector survey.old
-        → OnOk result (Surveyed (fields_of ecc.now.head) (known_of ecc.now) (bytes_of (D.files desk.old) name.now) (sector + 1) survey.new) }
-    ensures fault { result ≡ Err VerifyRefusal.ReadFault → Rose (D.read_faults desk.old) (D.read_faults desk.new) }
-    ensures reads { result ≢ Err VerifyRefusal.ReadFault → D.read_faults desk.new ≡ D.read_faults desk.old }
-    ensures later { D.read_faults desk.old ≤ D.read_faults desk.new }
-    ensures writes { D.write_faults desk.new ≡ D.write_faults desk.old }
-    ensures causes { IfErr result (λ why. (why ≡ VerifyRefusal.ReadFault) ⊎ (why ≡ VerifyRefusal.OutOfMemory)) }
+ghost use Rattle.rs01_verify.specs.Surveyed.{CountedBy, IsEmpty, SurveyedBy};
+
+// Adds a sector's own bytes to a digest, where it is there.
+fn add_own(hasher: &mut Md5, there: bool, len: u32, block: &[u8; 2048])
+    requires { len ≤ 2048 }
+    ensures { IsTrue there → (m : List ℕ) → Holds hasher.old m
+        → Holds hasher.new (m ++ take len block.now) }
 {
-    let extent = ecc.extent();
-    let shape = ecc.shape();
-    let mut block = [0u8; 2048];
-    let there = match take_sector(
-        desk,
-        name,
-        size,
-        &extent,
-        sector,
-        &mut block,
-        &mut survey.hasher,
-    ) {
-        Ok(there) => there,
-        Err(Failed) => return Err(VerifyRefusal::ReadFault),
-    };
-    survey.fingerprint = fingerprint_after(ecc.head(), there, sector, &block, survey.fingerprint);
-    let found = judge(there, ecc.sums(), sector, &block);
-    match survey.tally.add(&shape, sector, found) {
-        Ok(()) => Ok(()),
-        Err(_) => Err(VerifyRefusal::OutOfMemory),
+    if there {
+        hasher.update(&block[..len as usize]);
     }
+}
+
+impl Visitor for Surveyor {
+    ghost use Rattle.rs01_verify.specs.Surveyed.{CountedBy, SurveyedShown};
+
+    type Kept = Survey;
+
+    ghost count = { λ v. v.ecc.head.sectors };
+
+    ghost keeps = { λ v image n survey. SurveyedShown v.ecc image n survey };
+
+    ghost fits = { λ v n survey. CountedBy v.ecc n survey };
+
+    fn sector(
+        &self,
+        sector: u32,
+        there: bool,
+        len: u32,
+        block: &[u8; 2048],
+        kept: &mut Survey,
+    ) -> Result<(), AllocError> {
+        add_own(&mut kept.hasher, there, len, block);
+        kept.fingerprint = fingerprint_after(
+            self.ecc.head(),
+            there,
+            sector,
+            block,
+            kept.fingerprint,
+        );
+        let found = judge(there, Some(self.ecc.sums()), sector, block);
+        kept.tally.add(&self.ecc.shape(), sector, found)?;
+        Ok(())
+    }
+}
+
+// Nothing yet, of an image in so many layers.
+fn empty_survey(alloc: Global, layers: u32) -> Result<Survey, AllocError>
+    ensures { IfOk result (λ survey. IsEmpty layers survey) }
+{
+    Ok(Survey {
+        tally: Tally::new(alloc, layers)?,
+        hasher: Md5::new(),
+        fingerprint: Mark::Absent,
+    })
 }
 
 // Looks at all sectors of an image file of `size` bytes. No file changes.
@@ -111,33 +90,15 @@ pub fn survey_image<D: Desk>(
     desk: &mut D,
     name: &str,
     size: u64,
-    ecc: &Ecc,
-) -> Result<Survey, VerifyRefusal>
-    ensures tells { D.tells desk.new ≡ D.tells desk.old }
-    ensures unchanged { IsTrue (D.tells desk.old) → D.files desk.new ≡ D.files desk.old }
-    ensures counted { IfOk result (λ survey. IsCounted (layers_of ecc.now.head.sectors ecc.now.head.parity) ecc.now.head.sectors survey.tally) }
-    ensures surveyed { IsTrue (D.tells desk.old) → size ≡ length (bytes_of (D.files desk.old) name.now)
-        → IfOk result (λ survey. Surveyed (fields_of ecc.now.head) (known_of ecc.now) (bytes_of (D.files desk.old) name.now) ecc.now.head.sectors survey) }
-    ensures fault { result ≡ Err VerifyRefusal.ReadFault → Rose (D.read_faults desk.old) (D.read_faults desk.new) }
-    ensures reads { result ≢ Err VerifyRefusal.ReadFault → D.read_faults desk.new ≡ D.read_faults desk.old }
-    ensures later { D.read_faults desk.old ≤ D.read_faults desk.new }
-    ensures writes { D.write_faults desk.new ≡ D.write_faults desk.old }
-    ensures causes { IfErr result (λ why. (why ≡ VerifyRefusal.ReadFault) ⊎ (why ≡ VerifyRefusal.OutOfMemory)) }
+    surveyor: &Surveyor,
+) -> Result<Survey, WalkFault>
+    ensures reads { OnlyReads (D.state desk.old) (D.state desk.new) (is_walk_fault result) }
+    ensures counted { let ecc = surveyor.now.ecc in IfOk result (CountedBy ecc ecc.head.sectors) }
+    ensures surveyed { let ecc = surveyor.now.ecc in InFile (D.state desk.old) name.now (λ file.
+        size ≡ length file → IfOk result (SurveyedBy ecc file ecc.head.sectors)) }
 {
-    let count = ecc.head().sectors;
-    let Ok(tally) = Tally::new(alloc, ecc.shape().layers()) else {
-        return Err(VerifyRefusal::OutOfMemory);
-    };
-    let mut survey = Survey {
-        tally,
-        hasher: Md5::new(),
-        fingerprint: Mark::Absent,
-    };
-    for sector in 0..count {
-        match look(desk, name, size, ecc, sector, &mut survey) {
-            Ok(()) => {}
-            Err(why) => return Err(why),
-        }
-    }
+    let extent = surveyor.ecc.extent();
+    let mut survey = empty_survey(alloc, surveyor.ecc.shape().layers())?;
+    walk_image(alloc, desk, name, size, &extent, surveyor, &mut survey)?;
     Ok(survey)
 }

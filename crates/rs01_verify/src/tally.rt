@@ -1,9 +1,9 @@
 //! The sectors that were found erased.
 ghost use Rattle.std.specs.Prelude.{◌≡◌, ◌≤◌, ◌<◌, ◌^◌, ◌++◌, ◌∷◌, [], IfOk, List, ℕ, OnOk, length, replicate, slice_index};
 ghost use Rattle.rs01_layers.specs.Layout.{layer_of, layers_of};
-ghost use Rattle.rs01_verify.specs.Condition.{altered_part, counts_after, missing_part};
+ghost use Rattle.rs01_verify.specs.Tallied.{altered_part, counts_after, missing_part};
 
-use crate::condition::Condition;
+use rs01_ecchead::Condition;
 use rs01_layers::Shape;
 use std::alloc::{AllocError, Global};
 
@@ -33,11 +33,15 @@ impl Tally {
     // Adds a sector as it was found.
     pub fn add(&mut self, shape: &Shape, sector: u32, found: Condition) -> Result<(), AllocError>
         requires sector { sector < shape.now.sectors }
-        requires layers { length self.old.counts.items ≡ layers_of shape.now.sectors shape.now.parity }
+        requires layers { length self.old.counts.items
+            ≡ layers_of shape.now.sectors shape.now.parity }
         requires room { (k : ℕ) → slice_index self.old.counts.items k ≤ sector }
-        ensures missing { OnOk result (self.new.missing.items ≡ self.old.missing.items ++ missing_part found sector) }
-        ensures altered { OnOk result (self.new.altered.items ≡ self.old.altered.items ++ altered_part found sector) }
-        ensures counts { OnOk result (self.new.counts.items ≡ counts_after found (layer_of shape.now.sectors shape.now.parity sector) self.old.counts.items) }
+        ensures missing { OnOk result
+            (self.new.missing.items ≡ self.old.missing.items ++ missing_part found sector) }
+        ensures altered { OnOk result
+            (self.new.altered.items ≡ self.old.altered.items ++ altered_part found sector) }
+        ensures counts { let l = layer_of shape.now.sectors shape.now.parity sector in OnOk result
+            (self.new.counts.items ≡ counts_after found l self.old.counts.items) }
     {
         match found {
             Condition::Sound => return Ok(()),

@@ -7,4 +7,6 @@ unfolding body
 joined image b0 b1 b2 r e f g = g ∙ ap (λ xs. xs ++ parity_bytes image r) (f ∙ ap (λ xs. xs ++ sum_bytes image) e)
 
 pub returns : goal.returns
-returns c = joined c.args.image.now _ _ _ c.args.shape.now.parity c.new-bytes.ensures.items c.in_ok-push_sums.ensures c.in_ok-push_parity.ensures
+returns c =
+    joined c.args.image.now.bytes.items _ _ _ c.args.image.now.shape.parity c.new-bytes.ensures.items
+    (c.in_ok-push_sums.ensures ∙ ap (λ xs. c.new-bytes.result.items ++ sum_bytes xs) c.deref.ensures.value) c.in_ok-push_parity.ensures

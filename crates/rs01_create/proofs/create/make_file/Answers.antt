@@ -1,7 +1,10 @@
-use Rattle.std.proofs.Common.{◌≡◌, ◌∙◌, ◌++◌, ap, subst, List, ℕ}
+use Rattle.std.proofs.Common.{◌≡◌, ◌∙◌, ◌++◌, ap, subst, refl, List, ℕ}
+use Rattle.md5.specs.Md5.{md5}
+use Rattle.rs01_layers.specs.Layout.{layers_of}
 use Rattle.rs01_outside.specs.Files.{Files, Becomes}
-use Rattle.rs01_ecchead.specs.Header.{head_bytes}
+use Rattle.rs01_ecchead.specs.Header.{Fields, head_bytes}
 use Rattle.rs01_ecchead.specs.EccFile.{ecc_file, head_fields, body}
+use Rattle.rs01_create.specs.Create.{report_of}
 use Rattle.rs01_create.proofs.create.make_file.Goals as goal
 
 -- a header and a body make the file
@@ -10,10 +13,25 @@ whole : (name image header rest : List ℕ) (r : ℕ) (old new : Files) → head
 unfolding ecc_file
 whole name image header rest r old new e f b = subst (λ (file : List ℕ). Becomes name file old new) (λ i. e i ++ f i) b
 
-pub returns-in-Ok-write_file-clause-done : goal.returns-in-Ok-write_file-clause-done
-returns-in-Ok-write_file-clause-done g c = λ t.
-    let r = c.args.image.now.shape.parity in
-    whole _ c.args.image.now.bytes.items _ _ r _ _
-    (c.write_head.ensures ∙ ap head_bytes (c.head_of_image-head.ensures ∙ ap (λ b. head_fields b r) c.deref-2.ensures.value))
-    (c.deref-4.ensures.value ∙ c.in-Ok.ensures ∙ ap (λ b. body b r) c.deref.ensures.value)
-    (c.in-Ok-write_file.ensures.done t)
+-- the digest that the header has
+digest : (image : List ℕ) (r : ℕ) (fields : Fields) → fields ≡ head_fields image r → fields.image_sum ≡ md5 image
+unfolding head_fields
+digest image r fields e = ap (λ (f : Fields). f.image_sum) e
+
+pub returns-in-Ok-clause-made : goal.returns-in-Ok-clause-made
+unfolding report_of
+returns-in-Ok-clause-made g c = λ t.
+    let image = c.args.image.now in
+    let r = image.shape.parity in (
+      whole c.args.name.now image.bytes.items c.write_head.new.into c.deref-2.result.now r _ _
+          (c.write_head.ensures ∙ ap head_bytes c.head_of_image-head.ensures)
+          (c.deref-2.ensures.value ∙ c.in_ok-body.ensures)
+          (c.in-Ok.ensures.written t),
+      λ i. record {
+        sectors = image.extended.sectors i;
+        layers = (c.layers.ensures.value ∙ ap (λ n. layers_of n r) (image.shaped ∙ image.extended.sectors)) i;
+        parity = c.parity.ensures i;
+        last_bytes = image.extended.last i;
+        image_sum = digest image.bytes.items r _ c.head_of_image-head.ensures i;
+      },
+    )

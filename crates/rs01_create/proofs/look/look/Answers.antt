@@ -1,22 +1,58 @@
-use Rattle.std.proofs.Common.{◌∙◌, ap, sym}
-use Rattle.std.specs.Prelude.{None, Some}
-use Rattle.rs01_outside.specs.Files.{Files}
+use Rattle.std.proofs.Common.{◌∙◌, ap, sym, subst}
+use Rattle.std.specs.Prelude.{None, Some, IsTrue}
+use Rattle.std.proofs.lemmas.Result.{err_from_is_err_and}
+use Rattle.rs01_outside.specs.Files.{Files, bytes_of}
+use Rattle.rs01_ecchead.specs.Pieces.{IsPiece}
 use Rattle.rs01_create.specs.Create.{first_marked}
-use Rattle.rs01_create.proofs.Refusals.{by_size, by_marker}
-use Rattle.rs01_create.proofs.Writes.{told}
+use Rattle.rs01_create.proofs.Looks.{by_mark, handed_on, looks_measured, looks_read, measure_many, measure_never, reading_many, reading_never}
 use Rattle.rs01_create.proofs.look.look.Goals as goal
 
-pub returns-in-Err-measure-clause-refused : goal.returns-in-Err-measure-clause-refused
-returns-in-Err-measure-clause-refused g c = λ t _. by_size _ _ _ (sym c.in-Ok-Some.field-0-is ∙ c.in-Ok-Some.ensures.size t) c.in-Err-measure.ensures.accepted
+pub returns-in_err-extent-clause-answer : goal.returns-in_err-extent-clause-answer
+returns-in_err-extent-clause-answer g c = λ t.
+    let p = err_from_is_err_and c.from_residual.result c.from_residual.ensures.1 in
+    looks_measured _ c.in-Ok-Some.size c.args.parity _ p.0 _ p.1 p.2 (sym c.in-Ok-Some.field-0-is ∙ c.in-Ok-Some.ensures.size t) c.in_err-extent.ensures
 
-pub returns-in-Some-clause-refused : goal.returns-in-Some-clause-refused
-returns-in-Some-clause-refused g c = λ t _.
-    by_marker _ _ c.in-Ok-read_whole.bytes.items (Some c.in-Some.sector) (sym c.in-Ok-Some.field-0-is ∙ c.in-Ok-Some.ensures.size t)
-    (λ file e l. c.in-Ok-read_whole.ensures.bytes (told _ _ c.in-Ok-Some.ensures.tells t) file (ap (λ (f : Files). f c.args.name.now) (c.in-Ok-Some.ensures.unchanged t) ∙ e) l)
-    c.in-Ok.ensures.accepted (c.in-Some.ensures ∙ ap first_marked c.deref.ensures.value)
+pub returns-in_err-extent-clause-many : goal.returns-in_err-extent-clause-many
+returns-in_err-extent-clause-many g c = λ n e.
+    let p = err_from_is_err_and c.from_residual.result c.from_residual.ensures.1 in
+    measure_many c.in-Ok-Some.size c.args.parity _ c.in_err-extent.ensures n (handed_on _ p.0 _ _ p.1 p.2 e)
 
-pub returns-in-None-clause-accepted : goal.returns-in-None-clause-accepted
-returns-in-None-clause-accepted g c = λ t.
-    by_marker _ _ c.in-Ok-read_whole.bytes.items None (sym c.in-Ok-Some.field-0-is ∙ c.in-Ok-Some.ensures.size t)
-    (λ file e l. c.in-Ok-read_whole.ensures.bytes (told _ _ c.in-Ok-Some.ensures.tells t) file (ap (λ (f : Files). f c.args.name.now) (c.in-Ok-Some.ensures.unchanged t) ∙ e) l)
-    c.in-Ok.ensures.accepted (c.in-None.ensures ∙ ap first_marked c.deref.ensures.value)
+pub returns-in_err-extent-clause-never : goal.returns-in_err-extent-clause-never
+returns-in_err-extent-clause-never g c = λ e.
+    let p = err_from_is_err_and c.from_residual.result c.from_residual.ensures.1 in
+    measure_never c.in-Ok-Some.size c.args.parity _ c.in_err-extent.ensures (handed_on _ p.0 _ _ p.1 p.2 e)
+
+pub returns-in_err-bytes-clause-answer : goal.returns-in_err-bytes-clause-answer
+returns-in_err-bytes-clause-answer g c = λ t.
+    let p = err_from_is_err_and c.from_residual-in_err-bytes.result c.from_residual-in_err-bytes.ensures.1 in
+    looks_read _ _ p.0 _ p.1 p.2 c.in_err-bytes.ensures.causes
+
+pub returns-in_err-bytes-clause-many : goal.returns-in_err-bytes-clause-many
+returns-in_err-bytes-clause-many g c = λ n e.
+    let p = err_from_is_err_and c.from_residual-in_err-bytes.result c.from_residual-in_err-bytes.ensures.1 in
+    reading_many _ c.in_err-bytes.ensures.causes n (handed_on _ p.0 _ _ p.1 p.2 e)
+
+pub returns-in_err-bytes-clause-never : goal.returns-in_err-bytes-clause-never
+returns-in_err-bytes-clause-never g c = λ e.
+    let p = err_from_is_err_and c.from_residual-in_err-bytes.result c.from_residual-in_err-bytes.ensures.1 in
+    reading_never _ c.in_err-bytes.ensures.causes (handed_on _ p.0 _ _ p.1 p.2 e)
+
+pub returns-in-Some-clause-answer : goal.returns-in-Some-clause-answer
+returns-in-Some-clause-answer g c = λ t.
+    let name = c.args.name.now in
+    let still = c.in-Ok-Some.ensures.reads.unchanged t in
+    let piece = subst (λ (f : Files). IsPiece (bytes_of f name) 0 c.in_ok-bytes.bytes.items) still
+    (c.in_ok-bytes.ensures.bytes (subst IsTrue (sym c.in-Ok-Some.ensures.reads.tells) t)) in
+    (by_mark ((g.D.Desk.state c.args.desk.now).files name) c.in-Ok-Some.size c.in_ok-bytes.bytes.items (Some c.in-Some.sector)
+    (sym c.in-Ok-Some.field-0-is ∙ c.in-Ok-Some.ensures.size t) c.in_ok-bytes.ensures.len piece c.in_ok-extent.ensures.accepted
+    (c.in-Some.ensures ∙ ap first_marked c.deref.ensures.value)).1
+
+pub returns-in-None-clause-answer : goal.returns-in-None-clause-answer
+returns-in-None-clause-answer g c = λ t.
+    let name = c.args.name.now in
+    let still = c.in-Ok-Some.ensures.reads.unchanged t in
+    let piece = subst (λ (f : Files). IsPiece (bytes_of f name) 0 c.in_ok-bytes.bytes.items) still
+    (c.in_ok-bytes.ensures.bytes (subst IsTrue (sym c.in-Ok-Some.ensures.reads.tells) t)) in
+    by_mark ((g.D.Desk.state c.args.desk.now).files name) c.in-Ok-Some.size c.in_ok-bytes.bytes.items None
+    (sym c.in-Ok-Some.field-0-is ∙ c.in-Ok-Some.ensures.size t) c.in_ok-bytes.ensures.len piece c.in_ok-extent.ensures.accepted
+    (c.in-None.ensures ∙ ap first_marked c.deref.ensures.value)

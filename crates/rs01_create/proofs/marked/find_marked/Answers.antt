@@ -10,14 +10,14 @@ pub returns-then-is_marker : goal.returns-then-is_marker
 returns-then-is_marker c =
     let image = c.args.image.now in
     let s = c.loop-sector.sector in
-    let b = is_sector image _ _ _ s _ c.requires.sectors c.requires.last c.length.ensures.value c.block_into.ensures in
+    let b = is_sector image _ c.args.extent.now s _ c.requires c.length.ensures.value c.block_into.ensures in
     marked_is image _ (Some s) c.requires.sectors (find_first (λ s. bytes_eq (sector image s) (marker s)) _ s (omega arith) c.loop-sector.invariant (marked_test s _ image _ b c.is_marker.ensures ∙ c.if-is_marker.true))
 
 pub loop-sector-preserved : goal.loop-sector-preserved
 loop-sector-preserved c =
     let image = c.args.image.now in
     let s = c.loop-sector.sector in
-    let b = is_sector image _ _ _ s _ c.requires.sectors c.requires.last c.length.ensures.value c.block_into.ensures in
+    let b = is_sector image _ c.args.extent.now s _ c.requires c.length.ensures.value c.block_into.ensures in
     find_none_more (λ s. bytes_eq (sector image s) (marker s)) s c.loop-sector.invariant (marked_test s _ image _ b c.is_marker.ensures ∙ c.if-is_marker.false)
 
 pub returns : goal.returns

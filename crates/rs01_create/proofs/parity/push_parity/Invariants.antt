@@ -5,4 +5,4 @@ use Rattle.rs01_create.proofs.parity.push_parity.Given as goal
 
 abbrev pub invariant-loop-layer : goal.invariant-loop-layer
 invariant-loop-layer l =
-    l.out.items ≡ l.initial.out.items ++ flat_map (layer_parity l.image l.shape.parity) (range_with_len 0 l.layer)
+    l.out.items ≡ l.initial.out.items ++ flat_map (layer_parity l.image.bytes.items l.image.shape.parity) (range_with_len 0 l.layer)

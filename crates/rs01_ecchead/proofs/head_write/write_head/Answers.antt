@@ -2,7 +2,8 @@ use Rattle.std.proofs.Common.{◌-◌, refl, arith}
 use Rattle.std.specs.Int.{to_le_bytes, w32, w64}
 use Rattle.std.specs.Prelude.{codes}
 use Rattle.rs01_ecchead.specs.Head.{fields_of}
-use Rattle.rs01_ecchead.proofs.Zeros.{header_is, filled, pieces_are}
+use Rattle.rs01_ecchead.proofs.Zeros.{header_is, pieces_are}
+use Rattle.rs01_lists.proofs.Padding.{filled}
 use Rattle.rs01_ecchead.proofs.head_write.write_head.Goals as goal
 
 pub returns : goal.returns

@@ -5,15 +5,15 @@ use Rattle.rs01_outside.specs.Files.{Files, bytes_of}
 use Rattle.rs01_ecchead.proofs.Parts.{two_parts}
 use Rattle.rs01_ecchead.proofs.opening.read_body.Goals as goal
 
-pub returns-in-Ok-add_rest-clause-digest : goal.returns-in-Ok-add_rest-clause-digest
-returns-in-Ok-add_rest-clause-digest g c = λ t long.
-    let f0 = g.D.Desk.files c.args.desk.now in
+pub returns-clause-digest : goal.returns-clause-digest
+returns-clause-digest g c = λ t long.
+    let f0 = (g.D.Desk.state c.args.desk.now).files in
     let name = c.args.name.now in
     let count = c.sectors-count.result in
-    let same = c.in-Ok-add_sums.ensures.unchanged t in
+    let same = c.in_ok-add_sums.ensures.reads.unchanged t in
     let room : 4096 + 4 * count ≤ length (bytes_of f0 name) = omega (arith, long) in
-    let size : length (bytes_of (g.D.Desk.files c.add_sums.new.desk) name) ≡ length (bytes_of f0 name) = ap (λ (f : Files). length (bytes_of f name)) same in
-    let first = c.in-Ok-add_sums.ensures.held t room [] c.new-hasher.ensures in
-    let all = c.in-Ok-add_rest.ensures.held (subst IsTrue (sym c.in-Ok-add_sums.ensures.tells) t) (omega (arith, long, size)) _ first in
+    let size : length (bytes_of (g.D.Desk.state c.add_sums.new.desk).files name) ≡ length (bytes_of f0 name) = ap (λ (f : Files). length (bytes_of f name)) same in
+    let first = c.in_ok-add_sums.ensures.held t room [] c.new-hasher.ensures in
+    let all = c.in_ok-add_rest.ensures.held (subst IsTrue (sym c.in_ok-add_sums.ensures.reads.tells) t) (omega (arith, long, size)) _ first in
     c.finalize.ensures _ all
-    ∙ ap md5 (two_parts f0 (g.D.Desk.files c.add_sums.new.desk) name count (4096 + 4 * c.from.result) c.file_size.result same (omega arith) (omega (arith, long)) (omega (arith, long)))
+    ∙ ap md5 (two_parts f0 (g.D.Desk.state c.add_sums.new.desk).files name count (4096 + 4 * c.from.result) c.file_size.result same (omega arith) (omega (arith, long)) (omega (arith, long)))

@@ -4,9 +4,10 @@ use Rattle.std.specs.List.{range_with_len}
 use Rattle.std.proofs.lemmas.List.FromFn.{length-map-range_with_len}
 use Rattle.md5.specs.Md5.{Holds}
 use Rattle.rs01_outside.specs.Files.{bytes_of}
-use Rattle.rs01_ecchead.specs.Header.{part, number_at}
+use Rattle.rs01_ecchead.specs.Header.{number_at}
 use Rattle.rs01_ecchead.specs.Recorded.{sums_in}
-use Rattle.rs01_ecchead.proofs.Parts.{one_more_part, piece_is}
+use Rattle.rs01_ecchead.proofs.Parts.{one_more_part, piece_then}
+use Rattle.rs01_lists.specs.Bytes.{part}
 use Rattle.rs01_ecchead.proofs.RecordedSums.{sums_more}
 use Rattle.rs01_ecchead.proofs.recorded.add_sums.Goals as goal
 
@@ -33,10 +34,7 @@ grown file now after piece at len low fours whole read long held put =
 
 pub loop-at-init : goal.loop-at-init
 loop-at-init g c = record {
-  tells = refl;
-  unchanged = λ t. refl;
-  reads = refl;
-  writes = refl;
+  reads = search rules;
   low = omega arith;
   high = omega arith;
   fours = refl;
@@ -62,19 +60,15 @@ pub loop-at-preserved : goal.loop-at-preserved
 loop-at-preserved g c =
     let at = c.loop-at.at in
     let len = c.piece_len-len.result in
-    let file = bytes_of (g.D.Desk.files c.args.desk.now) c.args.name.now in
+    let file = bytes_of (g.D.Desk.state c.args.desk.now).files c.args.name.now in
     let whole : len % 4 ≡ 0 =
     whole_sums at (4096 + 4 * c.args.count) (length c.args.buffer.now) len c.args.count refl c.loop-at.invariant.low (omega arith) c.loop-at.invariant.fours c.requires.fours (omega arith) in
     let long : length c.add_piece.new.into ≡ len = c.add_piece.auto.into ∙ simp (length-take) (omega arith) in
-    let t1 = λ (t : IsTrue (g.D.Desk.tells c.args.desk.now)). subst IsTrue (sym c.loop-at.invariant.tells) t in
-    let read = λ (t : IsTrue (g.D.Desk.tells c.args.desk.now)) (fits : 4096 + 4 * c.args.count ≤ length file).
-    piece_is (g.D.Desk.files c.args.desk.now) _ c.args.name.now c.add_piece.new.into at _ len (c.loop-at.invariant.unchanged t) (simp (length-take) (omega arith))
-    (c.in_ok-add_piece.ensures.bytes (t1 t)) (omega arith) in
+    let read = λ (t : IsTrue (g.D.Desk.state c.args.desk.now).tells) (fits : 4096 + 4 * c.args.count ≤ length file).
+    piece_then (g.D.Desk.state c.args.desk.now).files _ c.args.name.now c.add_piece.new.into at len (c.loop-at.invariant.reads.unchanged t) long
+    (c.in_ok-add_piece.ensures.filled (subst IsTrue (sym c.loop-at.invariant.reads.tells) t)) (omega arith) in
     record {
-      tells = search rules;
-      unchanged = search rules;
       reads = search rules;
-      writes = search rules;
       low = omega arith;
       high = omega arith;
       fours = omega arith;

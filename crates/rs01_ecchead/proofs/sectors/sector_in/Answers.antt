@@ -1,7 +1,7 @@
-use Rattle.std.proofs.Common.{◌≡◌, ◌∙◌, ◌+◌, ◌*◌, ◌≤◌, List, ℕ, length, arith}
-use Rattle.rs01_layers.specs.Sectors.{block, padded}
+use Rattle.std.proofs.Common.{◌≡◌, ◌∙◌, ◌*◌, List, ℕ, arith}
+use Rattle.rs01_layers.specs.Sectors.{block}
 use Rattle.rs01_outside.specs.Files.{bytes_of}
-use Rattle.rs01_ecchead.specs.Header.{part}
+use Rattle.rs01_lists.specs.Bytes.{padded, part}
 use Rattle.rs01_ecchead.proofs.sectors.sector_in.Goals as goal
 
 -- a part from a sector's start on, padded, is its block
@@ -10,7 +10,6 @@ unfolding block
 padded_part file into s at n len w a l e put = put ∙ (λ i. padded (e i) (part file (a i) (l i)))
 
 pub returns-clause-block : goal.returns-clause-block
-returns-clause-block g c = λ t size _.
-    let file = bytes_of (g.D.Desk.files c.args.desk.now) c.args.name.now in
-    let fits : 2048 * c.from-at.result + c.length-count.result ≤ length file = omega (arith, size) in
-    padded_part file _ c.args.sector _ _ c.length-count.result _ (omega arith) (c.length-count.ensures.value) (omega arith) (c.in_ok-read_padded.ensures.bytes t fits)
+returns-clause-block g c = λ t _.
+    padded_part (bytes_of (g.D.Desk.state c.args.desk.now).files c.args.name.now) _ c.args.sector _ _ c.length-count.result _
+    (omega arith) c.length-count.ensures.value (omega arith) (c.in_ok-read_padded.ensures.bytes t)

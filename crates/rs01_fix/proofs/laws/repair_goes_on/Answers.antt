@@ -1,5 +1,5 @@
-use Rattle.rs01_fix.proofs.GoesOn.{repair_goes_on}
+use Rattle.rs01_fix.proofs.GoesOn as lemma
 use Rattle.rs01_fix.proofs.laws.repair_goes_on.Goals as goal
 
 pub returns : goal.returns
-returns c = repair_goes_on
+returns c = lemma.repair_goes_on

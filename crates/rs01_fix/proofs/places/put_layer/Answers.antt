@@ -1,14 +1,32 @@
-use Rattle.std.proofs.Common.{◌≡◌, ◌-◌, arith, subst, ℕ}
-use Rattle.rs01_ecchead.specs.Erased.{known_of}
-use Rattle.rs01_fix.specs.Progress.{StandsUnder}
-use Rattle.rs01_fix.proofs.HeldLemmas.{is_image}
+use Rattle.std.proofs.Common.{◌≡◌, ◌+◌, ◌-◌, arith, subst, sym, ℕ}
+use Rattle.std.specs.Prelude.{IsTrue}
+use Rattle.std.proofs.lemmas.Result.{err_from_is_err_and}
+use Rattle.rs01_outside.proofs.States.{changes-then}
+use Rattle.rs01_repair.specs.Holding.{answer_to, said}
+use Rattle.rs01_fix.specs.Steps.{IsBefore, IsEitherWay}
+use Rattle.rs01_fix.proofs.HeldLemmas.{is_image, leads_err}
 use Rattle.rs01_fix.proofs.StandLemmas.{layer_done}
 use Rattle.rs01_fix.proofs.places.put_layer.Goals as goal
 
-pub returns-clause-done : goal.returns-clause-done
-returns-clause-done g c = λ answers same told stands.
+pub loop-place-preserved : goal.loop-place-preserved
+loop-place-preserved g c = record {
+  changes = changes-then c.args.name.now _ _ _ _ c.loop-place.invariant.changes c.in_ok-put_place.ensures.changes;
+  stands = λ recorded same t start.
+      c.in_ok-put_place.ensures.put recorded same (subst IsTrue (sym c.loop-place.invariant.changes.tells) t) (c.loop-place.invariant.stands recorded same t start);
+}
+
+pub returns-in_err-put_place-clause-put : goal.returns-in_err-put_place-clause-put
+returns-in_err-put_place-clause-put g c = λ recorded same.
+    let held = c.args.held.now in
+    let p = err_from_is_err_and c.from_residual.result c.from_residual.ensures.1 in
+    leads_err (IsBefore held recorded c.args.layer 0) (IsBefore held recorded (c.args.layer + 1) 0) (IsEitherWay held recorded) c.args.name.now
+    (g.D.Desk.state c.args.desk.now) (g.D.Desk.state c.put_place.new.desk) _ p.0 p.1 (λ t start.
+    c.in_err-put_place.ensures.put recorded same (subst IsTrue (sym c.loop-place.invariant.changes.tells) t) (c.loop-place.invariant.stands recorded same t start))
+
+pub returns-clause-put : goal.returns-clause-put
+returns-clause-put g c = λ recorded same t start.
     let held = c.args.held.now in
     let all : c.loop-place.place ≡ 255 - held.ecc.head.parity = omega arith in
-    layer_done (known_of held.ecc) held.image.items held.ecc.head.parity answers c.args.layer (g.D.Desk.files c.loop-place.desk c.args.name.now) (is_image held.ecc)
-    (subst (λ (p : ℕ). StandsUnder (known_of held.ecc) held.image.items held.ecc.head.parity answers c.args.layer p (g.D.Desk.files c.loop-place.desk c.args.name.now)) all
-    (c.loop-place.invariant.stands answers same told stands))
+    layer_done (said held recorded) held.image.items (answer_to held recorded) c.args.layer ((g.D.Desk.state c.loop-place.desk).files c.args.name.now) (is_image held recorded)
+    (subst (λ (p : ℕ). IsBefore held recorded c.args.layer p ((g.D.Desk.state c.loop-place.desk).files c.args.name.now)) all
+    (c.loop-place.invariant.stands recorded same t start))

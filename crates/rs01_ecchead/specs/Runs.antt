@@ -1,0 +1,9 @@
+-- Neighbouring sectors of an image file that are read at once.
+use Rattle.std.specs.Prelude.{ℕ, ◌≡◌, ◌+◌, ◌*◌, ◌/◌, ◌<◌, List, length}
+use Rattle.rs01_layers.specs.Sectors.{block, length_of}
+use Rattle.rs01_lists.specs.Bytes.{part}
+
+-- a buffer holds the blocks of the sectors from `first` on of an image of n sectors, whose last one has `last` bytes
+abbrev pub IsRun : List ℕ → ℕ → ℕ → ℕ → List ℕ → Type 0
+IsRun file n last first buffer = (k : ℕ) → k < length buffer / 2048
+    → part buffer (2048 * k) 2048 ≡ block file (first + k) (length_of n last (first + k))

@@ -1,0 +1,4 @@
+pub mod Inputs
+pub mod Restored
+pub mod Holding
+pub mod Intact
