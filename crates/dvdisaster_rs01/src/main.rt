@@ -50,6 +50,9 @@ fn main(rt: HostRuntime) -> ExitCode {
         return ExitCode::from(NO_MEMORY);
     };
     let mut desk = FileDesk::new(files);
+    if desk.reserve(&words).is_err() {
+        return ExitCode::from(NO_MEMORY);
+    }
     let mut out = StdSink::new(output);
     ExitCode::from(run_one(rt.alloc(), &words, &mut desk, &mut out))
 }

@@ -1,6 +1,6 @@
-mod CreateRuns
-mod FixRuns
-mod Prefixes
-mod RunLemmas
-mod Runs
-mod VerifyRuns
+mod Asks
+mod Creates
+mod Endings
+mod Fixes
+mod HeadFaults
+mod Verifies

@@ -41,16 +41,6 @@ create_fault create.ReadFault = fault.ReadFault
 create_fault create.WriteFault = fault.WriteFault
 create_fault create.OutOfMemory = fault.OutOfMemory
 
--- the status of a run that ended so
-abbrev pub create_status : CreateRefusal → ℕ
-create_status create.NoImage = 3
-create_status create.EmptyImage = 3
-create_status (create.TooManySectors n) = 3
-create_status (create.Marker s) = 3
-create_status create.ReadFault = 4
-create_status create.WriteFault = 4
-create_status create.OutOfMemory = 7
-
 -- which file isn't there
 abbrev pub absent_fault : Which → Fault
 absent_fault which.Ecc = fault.NoEcc
@@ -74,14 +64,6 @@ verify_fault (verify.Body have want) = fault.Body have want
 verify_fault verify.ReadFault = fault.ReadFault
 verify_fault verify.OutOfMemory = fault.OutOfMemory
 
-abbrev pub verify_status : VerifyRefusal → ℕ
-verify_status (verify.NoFile which) = 3
-verify_status (verify.Head why) = 3
-verify_status (verify.Size have want) = 3
-verify_status (verify.Body have want) = 3
-verify_status verify.ReadFault = 4
-verify_status verify.OutOfMemory = 7
-
 -- why an image wasn't repaired
 abbrev pub fix_fault : FixRefusal → Fault
 fix_fault (fix.NoFile which) = absent_fault which
@@ -91,12 +73,3 @@ fix_fault (fix.Body have want) = fault.Body have want
 fix_fault fix.ReadFault = fault.ReadFault
 fix_fault fix.WriteFault = fault.WriteFault
 fix_fault fix.OutOfMemory = fault.OutOfMemory
-
-abbrev pub fix_status : FixRefusal → ℕ
-fix_status (fix.NoFile which) = 3
-fix_status (fix.Head why) = 3
-fix_status (fix.Size have want) = 3
-fix_status (fix.Body have want) = 3
-fix_status fix.ReadFault = 4
-fix_status fix.WriteFault = 4
-fix_status fix.OutOfMemory = 7

@@ -1,95 +1,119 @@
--- What holds of a run, whatever happened in it: its answer, what may stand, and the cause of each status.
-use Rattle.std.specs.Prelude.{ℕ, ◌≡◌, ◌≢◌, ◌⊎◌, List, [], ◌++◌, take, Bool, IsTrue, IsErr, IsSome, Result}
+-- What holds of a run from one state of the desk and the output to another, whatever happened in it.
+use Rattle.std.specs.Prelude.{ℕ, ◌≡◌, ◌≢◌, ◌≤◌, ◌==◌, ◌⊎◌, if◌then◌else◌, List, true, false, IsTrue, IsSome, Some, Result, Ok, Err}
 use Rattle.rs01_outside.specs.Causes.{Rose}
-use Rattle.rs01_outside.specs.Files.{Files}
+use Rattle.rs01_outside.specs.DeskState.{DeskState}
+use Rattle.rs01_outside.specs.SinkState.{SinkState, Takes}
+use Rattle.rs01_report.specs.declared.faults.Fault.{Fault}
 use Rattle.rs01_report.specs.declared.faults.Fault.TheVariants as fault
-use Rattle.rs01_report.specs.Faults.{fault_line}
-use Rattle.rs01_words.specs.declared.command.Command.{Command}
-use Rattle.rs01_words.specs.declared.fault.WordRefused.{WordRefused}
-use Rattle.rs01_create.specs.Create.{refusal_of}
-use Rattle.rs01_fix.specs.Answer.{fix_answer}
-use Rattle.rs01_verify.specs.Answer.{verify_answer}
-use Rattle.rs01_top.specs.Answer.{AnswerTo, CreateAnswer, FixAnswer, IsNoWork, IsRefusedByFiles, MayStand, MayStandAfterCreate, MayStandAfterFix, VerifyAnswer, WritesNothing}
+use Rattle.rs01_report.specs.declared.puts.PutRefusal.{PutRefusal}
+use Rattle.rs01_report.specs.declared.puts.PutRefusal.TheVariants.{SinkFault, OutOfMemory}
+use Rattle.rs01_report.specs.Faults.{fault_line, status_of}
+use Rattle.rs01_report.specs.Puts.{PutsText}
+use Rattle.rs01_top.specs.Outside.{outside_of}
+use Rattle.rs01_top.specs.Work.{Answers, Work}
 
 -- a status of a run that met no fault and no want of memory
 abbrev pub IsSettled : ℕ → Type 0
 IsSettled status = (status ≡ 0) ⊎ (status ≡ 1) ⊎ (status ≡ 2) ⊎ (status ≡ 3)
 
 -- exactly these bytes were put, where the sink tells
-abbrev pub Tells : Bool → List ℕ → List ℕ → List ℕ → Type 0
-Tells tells line taken taken' = IsTrue tells → taken' ≡ taken ++ line
+abbrev pub Tells : SinkState → SinkState → List ℕ → Type 0
+Tells out out' line = IsTrue out.tells → Takes false out.taken out'.taken line
 
--- what was put is some first bytes of these, where the sink tells
-abbrev pub PutsPrefix : Bool → List ℕ → List ℕ → List ℕ → Type 0
-PutsPrefix tells line taken taken' = IsTrue tells → (kept : ℕ) × (taken' ≡ taken ++ take kept line)
+-- some first bytes of these were put, where the sink tells
+abbrev pub Begins : SinkState → SinkState → List ℕ → Type 0
+Begins out out' line = IsTrue out.tells → Takes true out.taken out'.taken line
 
--- what the telling of a fault promises
-pub record Telling (line : List ℕ) (wanted : ℕ) (tells : Bool) (taken taken' : List ℕ) (puts puts' : ℕ) (status : ℕ) : Type 0 where
-  pub range : (status ≡ wanted) ⊎ (status ≡ 6) ⊎ (status ≡ 7)
-  pub memory_stays : wanted ≡ 7 → status ≡ 7
-  pub whole : status ≡ wanted → wanted ≢ 6 → wanted ≢ 7 → Tells tells line taken taken'
-  pub prefix : PutsPrefix tells line taken taken'
-  pub nothing : wanted ≢ 7 → status ≡ 7 → Tells tells [] taken taken'
-  pub cause : wanted ≢ 6 → status ≡ 6 → Rose puts puts'
-  pub quiet : status ≡ wanted → wanted ≢ 6 → wanted ≢ 7 → puts' ≡ puts
+-- desk and sink tell after the run what they told before, and no count of faults fell
+pub record Lasts (old new : DeskState) (out out' : SinkState) : Type 0 where
+  pub desk : new.tells ≡ old.tells
+  pub sink : out'.tells ≡ out.tells
+  pub reads : old.read_faults ≤ new.read_faults
+  pub writes : old.write_faults ≤ new.write_faults
+  pub puts : out.faults ≤ out'.faults
 
--- the counts of a desk and a sink before and after: read faults, write faults, and faults of output
-pub record Counts : Type 0 where
-  pub reads : ℕ
-  pub reads' : ℕ
-  pub writes : ℕ
-  pub writes' : ℕ
-  pub puts : ℕ
-  pub puts' : ℕ
+-- after status 0 to 3 the files, the bytes put and the status are the answer to the words and the files
+abbrev pub IsAnswered : Work → DeskState → DeskState → SinkState → SinkState → ℕ → Type 0
+IsAnswered work old new out out' status = IsTrue old.tells → IsSettled status
+    → (put : List ℕ) × Answers work (outside_of old) (outside_of new) put status × Tells out out' put
 
--- What holds of a run: `right` is its answer as a relation between the bytes put and the status, `stands` is what may
--- stand in any case, `no_work` says that nothing is built for the words, `refused` that the files forbid the work, and
--- `unwritten` that the work writes nothing.
-pub record IsRunOf (right : List ℕ → ℕ → Type 0) (stands no_work refused unwritten : Type 0) (desk_tells out_tells : Bool) (taken taken' : List ℕ) (counts : Counts) (status : ℕ) : Type 0 where
-  -- the answer
-  pub answer : IsTrue desk_tells → IsSettled status → (put : List ℕ) × right put status × Tells out_tells put taken taken'
-  -- after a fault of output alone, the files are those of the answer, and some first bytes of its text were put
-  pub unput : IsTrue desk_tells → status ≡ 6 → ¬ Rose counts.reads counts.reads' → ¬ Rose counts.writes counts.writes'
-      → (put : List ℕ) × (number : ℕ) × right put number × PutsPrefix out_tells put taken taken'
-  -- what may stand
-  pub standing : IsTrue desk_tells → stands
-  -- the causes
-  pub no_work_told : no_work → (status ≡ 2) ⊎ (status ≡ 6) ⊎ (status ≡ 7)
-  pub only_no_work : status ≡ 2 → no_work
-  pub refused_told : IsTrue desk_tells → refused → (status ≡ 3) ⊎ (status ≡ 4) ⊎ (status ≡ 6) ⊎ (status ≡ 7)
-  pub only_refused : IsTrue desk_tells → status ≡ 3 → refused
-  pub files_fault : status ≡ 4
-      → (Rose counts.reads counts.reads' × Tells out_tells (fault_line fault.ReadFault) taken taken')
-      ⊎ (Rose counts.writes counts.writes' × Tells out_tells (fault_line fault.WriteFault) taken taken')
-  pub output : status ≡ 6 → Rose counts.puts counts.puts'
-  pub memory : status ≡ 7 → PutsPrefix out_tells (fault_line fault.OutOfMemory) taken taken'
-  pub no_work_quiet : no_work → (counts.reads' ≡ counts.reads) × (counts.writes' ≡ counts.writes)
-  pub no_writes : IsTrue desk_tells → unwritten → counts.writes' ≡ counts.writes
-  -- no fault is passed over
-  pub quiet_put : status ≡ 4 → counts.puts' ≡ counts.puts
-  pub quiet : IsSettled status → (counts.reads' ≡ counts.reads) × (counts.writes' ≡ counts.writes) × (counts.puts' ≡ counts.puts)
-  pub range : IsSettled status ⊎ (status ≡ 4) ⊎ (status ≡ 6) ⊎ (status ≡ 7)
+-- after a fault of output alone the files are those of the answer, and some first bytes of its text were put
+abbrev pub IsUnput : Work → DeskState → DeskState → SinkState → SinkState → ℕ → Type 0
+IsUnput work old new out out' status = IsTrue old.tells → status ≡ 6
+    → ¬ Rose old.read_faults new.read_faults → ¬ Rose old.write_faults new.write_faults
+    → (put : List ℕ) × (number : ℕ) × Answers work (outside_of old) (outside_of new) put number × Begins out out' put
 
--- a run that makes the file of an image
-abbrev pub IsCreateRun : (image ecc : List ℕ) → ℕ → Bool → Bool → Files → Files → List ℕ → List ℕ → Counts → ℕ → Type 0
-IsCreateRun image ecc r desk_tells out_tells old new taken taken' counts status =
-    IsRunOf (CreateAnswer (refusal_of (old image)) image ecc r old new) (MayStandAfterCreate image ecc r old new) ⊥ (IsSome (refusal_of (old image))) (IsSome (refusal_of (old image)))
-    desk_tells out_tells taken taken' counts status
+-- what may stand after any status
+abbrev pub Stands : Work → DeskState → DeskState → Type 0
+Stands work old new = IsTrue old.tells → work.may_stand (outside_of old) (outside_of new)
 
--- a run that checks an image; it changes no file
-abbrev pub IsVerifyRun : (image ecc : List ℕ) → Bool → Bool → Files → Files → List ℕ → List ℕ → Counts → ℕ → Type 0
-IsVerifyRun image ecc desk_tells out_tells old new taken taken' counts status =
-    IsRunOf (VerifyAnswer (verify_answer (old ecc) (old image)) image old new) (new ≡ old) ⊥ (IsErr (verify_answer (old ecc) (old image))) (Unit {0})
-    desk_tells out_tells taken taken' counts status
+-- the statuses that there are
+abbrev pub IsStatus : ℕ → Type 0
+IsStatus status = IsSettled status ⊎ (status ≡ 4) ⊎ (status ≡ 6) ⊎ (status ≡ 7)
 
--- a run that repairs an image
-abbrev pub IsFixRun : (image ecc : List ℕ) → Bool → Bool → Bool → Files → Files → List ℕ → List ℕ → Counts → ℕ → Type 0
-IsFixRun image ecc cut desk_tells out_tells old new taken taken' counts status =
-    IsRunOf (FixAnswer (fix_answer (old ecc) (old image) cut) image old new) (MayStandAfterFix (fix_answer (old ecc) (old image) cut) image old new) ⊥ (IsErr (fix_answer (old ecc) (old image) cut)) (IsErr (fix_answer (old ecc) (old image) cut))
-    desk_tells out_tells taken taken' counts status
+-- what refuses the work has this status, and its line was put
+pub record TellsRefusal (work : Work) (desk : DeskState) (out out' : SinkState) (status : ℕ) : Type 0 where
+  pub why : Fault
+  pub first : work.refusal (outside_of desk) ≡ Some why
+  pub number : status_of why ≡ status
+  pub line : Tells out out' (fault_line why)
 
--- a run that does what was asked for by words
-abbrev pub IsRun : Result Command WordRefused → List (List ℕ) → Bool → Bool → Files → Files → List ℕ → List ℕ → Counts → ℕ → Type 0
-IsRun asked words desk_tells out_tells old new taken taken' counts status =
-    IsRunOf (AnswerTo asked words old new) (MayStand asked words old new) (IsNoWork asked) (IsRefusedByFiles asked words old) (WritesNothing asked words old)
-    desk_tells out_tells taken taken' counts status
+-- status 2 comes only where the words are refused, and status 3 only where the files are, on a desk that tells them; the
+-- line of that refusal was put
+abbrev pub IsOnlyRefused : Work → DeskState → SinkState → SinkState → ℕ → Type 0
+IsOnlyRefused work desk out out' status =
+    (status ≡ 2) ⊎ (IsTrue desk.tells × (status ≡ 3)) → TellsRefusal work desk out out' status
+
+-- a run that is refused has the refusal's status, unless the output fails, memory runs out, or a file can't be read or
+-- written before the refusal is found, which doesn't happen where the words are refused
+abbrev pub IsRefusedAs : Work → DeskState → ℕ → Type 0
+IsRefusedAs work desk status = (why : Fault) → work.refusal (outside_of desk) ≡ Some why
+    → (status_of why ≡ 2) ⊎ IsTrue desk.tells
+    → (status ≡ status_of why) ⊎ (status ≡ 6) ⊎ (status ≡ 7) ⊎ ((status ≡ 4) × (status_of why ≢ 2))
+
+-- the causes of the other statuses, by the counts of faults, with the line that was put
+pub record HasCause (old new : DeskState) (out out' : SinkState) (status : ℕ) : Type 0 where
+  pub files : status ≡ 4
+      → (Rose old.read_faults new.read_faults × Tells out out' (fault_line fault.ReadFault))
+      ⊎ (Rose old.write_faults new.write_faults × Tells out out' (fault_line fault.WriteFault))
+  pub output : status ≡ 6 → Rose out.faults out'.faults
+  pub memory : status ≡ 7 → Begins out out' (fault_line fault.OutOfMemory)
+
+-- no file was read or written without a fault being told
+abbrev pub NothingRose : DeskState → DeskState → Type 0
+NothingRose old new = (new.read_faults ≡ old.read_faults) × (new.write_faults ≡ old.write_faults)
+
+-- no fault is passed over, and where no file is to be read or written no call for it fails
+pub record IsQuiet (work : Work) (old new : DeskState) (out out' : SinkState) (status : ℕ) : Type 0 where
+  -- words that are refused: no file is looked at
+  pub no_work : (why : Fault) → work.refusal (outside_of old) ≡ Some why → status_of why ≡ 2 → NothingRose old new
+  -- work that only reads, on any desk, and work that the files refuse: no file is written
+  pub no_writes : IsTrue work.only_reads ⊎ (IsTrue old.tells × IsSome (work.refusal (outside_of old)))
+      → new.write_faults ≡ old.write_faults
+  pub output : status ≡ 4 → out'.faults ≡ out.faults
+  pub settled : IsSettled status → NothingRose old new × (out'.faults ≡ out.faults)
+
+-- all of it
+pub record IsRun (work : Work) (old new : DeskState) (out out' : SinkState) (status : ℕ) : Type 0 where
+  pub lasts : Lasts old new out out'
+  pub answer : IsAnswered work old new out out' status
+  pub unput : IsUnput work old new out out' status
+  pub stands : Stands work old new
+  pub range : IsStatus status
+  pub only_refused : IsOnlyRefused work old out out' status
+  pub refused : IsRefusedAs work old status
+  pub cause : HasCause old new out out' status
+  pub quiet : IsQuiet work old new out out' status
+
+-- the status once the last text was put, or not: the wanted one where it was put whole, 6 where the output failed, and 7
+-- for want of memory, which stays 7 whatever happens to its line
+abbrev pub ended : Result Unit PutRefusal → ℕ → ℕ
+ended (Ok u) wanted = wanted
+ended (Err SinkFault) wanted = if wanted == 7 then 7 else 6
+ended (Err OutOfMemory) wanted = 7
+
+-- a text was put as the last one, for a run that is to end with this status
+pub record Ends (line : List ℕ) (wanted : ℕ) (out out' : SinkState) (status : ℕ) : Type 0 where
+  pub put : Result Unit PutRefusal
+  pub puts : PutsText out out' line put
+  pub number : status ≡ ended put wanted

@@ -1,6 +1,6 @@
-//! Which fault a refusal is told as, and with which status.
+//! Which fault a refusal is told as.
 ghost use Rattle.std.specs.Prelude.{◌≡◌};
-ghost use Rattle.rs01_top.specs.Faults.{absent_fault, create_fault, create_status, fix_fault, fix_status, head_fault, verify_fault, verify_status, word_fault};
+ghost use Rattle.rs01_top.specs.Faults.{absent_fault, create_fault, fix_fault, head_fault, verify_fault, word_fault};
 
 use rs01_create::CreateRefusal;
 use rs01_ecchead::{HeadRefusal, Which};
@@ -42,20 +42,6 @@ pub fn create_fault(why: CreateRefusal) -> Fault
     }
 }
 
-// The status of a run that made no file.
-pub fn create_status(why: CreateRefusal) -> u8
-    ensures { result ≡ create_status why }
-{
-    match why {
-        CreateRefusal::NoImage
-        | CreateRefusal::EmptyImage
-        | CreateRefusal::TooManySectors(_)
-        | CreateRefusal::Marker(_) => 3,
-        CreateRefusal::ReadFault | CreateRefusal::WriteFault => 4,
-        CreateRefusal::OutOfMemory => 7,
-    }
-}
-
 // The fault of a file that isn't there.
 pub fn absent_fault(which: Which) -> Fault
     ensures { result ≡ absent_fault which }
@@ -94,20 +80,6 @@ pub fn verify_fault(why: VerifyRefusal) -> Fault
     }
 }
 
-// The status of a run that checked no image.
-pub fn verify_status(why: VerifyRefusal) -> u8
-    ensures { result ≡ verify_status why }
-{
-    match why {
-        VerifyRefusal::NoFile(_)
-        | VerifyRefusal::Head(_)
-        | VerifyRefusal::Size { .. }
-        | VerifyRefusal::Body { .. } => 3,
-        VerifyRefusal::ReadFault => 4,
-        VerifyRefusal::OutOfMemory => 7,
-    }
-}
-
 // The fault of an image that wasn't repaired.
 pub fn fix_fault(why: FixRefusal) -> Fault
     ensures { result ≡ fix_fault why }
@@ -120,19 +92,5 @@ pub fn fix_fault(why: FixRefusal) -> Fault
         FixRefusal::ReadFault => Fault::ReadFault,
         FixRefusal::WriteFault => Fault::WriteFault,
         FixRefusal::OutOfMemory => Fault::OutOfMemory,
-    }
-}
-
-// The status of a run that repaired no image.
-pub fn fix_status(why: FixRefusal) -> u8
-    ensures { result ≡ fix_status why }
-{
-    match why {
-        FixRefusal::NoFile(_)
-        | FixRefusal::Head(_)
-        | FixRefusal::Size { .. }
-        | FixRefusal::Body { .. } => 3,
-        FixRefusal::ReadFault | FixRefusal::WriteFault => 4,
-        FixRefusal::OutOfMemory => 7,
     }
 }

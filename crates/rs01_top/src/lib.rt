@@ -1,9 +1,10 @@
 //! The whole program but for its edge: from the words, the files and the place for output to the status.
 #![tactic(auto)]
 
+mod commands;
+mod ending;
 mod faults;
 mod run;
-mod tell;
 
 pub use run::run_one;
 

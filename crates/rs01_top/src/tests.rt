@@ -221,7 +221,14 @@ fn protected(alloc: Global, len: usize, parity: u32) -> Result<MemoryDesk, Alloc
 #[test]
 fn checked_images(rt: HostRuntime) -> Result<(), Fail> {
     // How the image is cut, and the bytes that are put at a place of it; the status, and what is put.
-    let cases: [(u64, u64, &[u8], u8, &str); 4] = [
+    let cases: [(u64, u64, &[u8], u8, &str); 5] = [
+        (
+            0,
+            0,
+            b"",
+            1,
+            "checked disc.iso\nsectors 224, layers 2, parity 32\nmissing 224: 0-223\naltered 0: none\nfullest layer 0: 112 of 32\nlayers beyond 2\nsurplus bytes 0\nfingerprint absent\nimage md5 short\n",
+        ),
         (
             458_752,
             0,
@@ -264,18 +271,31 @@ fn checked_images(rt: HostRuntime) -> Result<(), Fail> {
 
 #[test]
 fn files_that_are_refused(rt: HostRuntime) -> Result<(), Fail> {
-    // The length to which the error correction file is cut, the words, and what is put.
-    for (len, want) in [
+    // The length to which the error correction file is cut, the byte that is put at a place of it, and what is told.
+    for (len, at, byte, want) in [
         (
-            136_063,
+            136_063u64,
+            0u64,
+            b"*",
             "rs01: the file has 136063 bytes, 136064 are expected\n",
         ),
-        (0, "rs01: the file has 0 bytes, 4096 are expected\n"),
+        (
+            4095,
+            0,
+            b"*",
+            "rs01: the file has 4095 bytes, 4096 are expected\n",
+        ),
+        (136_064, 0, b"!", "rs01: header: cookie\n"),
+        (136_064, 88, b"\xff", "rs01: header: version\n"),
     ] {
         let mut desk = protected(rt.alloc(), 458_752, 32)?;
-        assert!(rt; desk.cut("disc.ecc", len).is_ok());
-        let ran = puts(rt.alloc(), "verify disc.iso disc.ecc", &mut desk, want)?;
-        assert_eq!(rt; ran, (3, true), "{want}");
+        assert!(rt;
+            desk.cut("disc.ecc", len).is_ok() && desk.write_at("disc.ecc", at, byte).is_ok()
+        );
+        for line in ["verify disc.iso disc.ecc", "fix disc.iso disc.ecc"] {
+            let ran = puts(rt.alloc(), line, &mut desk, want)?;
+            assert_eq!(rt; ran, (3, true), "{want}");
+        }
     }
     let mut desk = protected(rt.alloc(), 458_752, 32)?;
     let want = "rs01: no error correction file\n";
@@ -445,13 +465,12 @@ struct VastDesk;
 impl Desk for VastDesk {
     ghost use Rattle.std.specs.Prelude.{false, None};
 
-    ghost tells = { λ _. false };
-
-    ghost files = { λ _ name. None };
-
-    ghost read_faults = { λ _. 0 };
-
-    ghost write_faults = { λ _. 0 };
+    ghost state = { λ _. record {
+      tells = false;
+      files = λ name. None;
+      read_faults = 0;
+      write_faults = 0;
+    } };
 
     fn size(&mut self, _name: &str) -> Result<Option<u64>, Failed> {
         Ok(Some(34_359_736_321))

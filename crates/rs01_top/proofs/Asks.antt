@@ -1,0 +1,40 @@
+-- What holds of a run whose words, or whose command, give no work.
+use Rattle.std.proofs.Common.{◌≡◌, ℕ, List, refl, sym, subst}
+use Rattle.std.specs.Prelude.{Result, Err}
+use Rattle.rs01_outside.specs.DeskState.{DeskState}
+use Rattle.rs01_outside.specs.SinkState.{SinkState}
+use Rattle.rs01_report.specs.Faults.{fault_line, status_of}
+use Rattle.rs01_words.specs.declared.command.Command.{Command}
+use Rattle.rs01_words.specs.declared.fault.WordFault.{WordFault}
+use Rattle.rs01_words.specs.declared.fault.WordFault.TheVariants.{NoCommand, UnknownCommand, UnknownOption, Repeated, NoValue, BadNumber, OutOfRange, Missing, SameName}
+use Rattle.rs01_words.specs.declared.fault.WordRefused.{WordRefused}
+use Rattle.rs01_top.specs.Asked.{work_by, work_of}
+use Rattle.rs01_top.specs.Faults.{fault_at, word_fault}
+use Rattle.rs01_top.specs.Run.{Ends, IsRun}
+use Rattle.rs01_top.proofs.Endings.{not_begun}
+
+word_is : (fault : WordFault) (place : ℕ) → status_of (fault_at fault place) ≡ 2
+word_is NoCommand place = refl
+word_is UnknownCommand place = refl
+word_is UnknownOption place = refl
+word_is Repeated place = refl
+word_is NoValue place = refl
+word_is BadNumber place = refl
+word_is OutOfRange place = refl
+word_is Missing place = refl
+word_is SameName place = refl
+
+-- words that are not in the grammar
+pub word_run : (asked : Result Command WordRefused) (refused : WordRefused) (words : List (List ℕ)) (desk : DeskState) (out out' : SinkState) (status : ℕ)
+    → asked ≡ Err refused
+    → Ends (fault_line (word_fault refused)) (status_of (word_fault refused)) out out' status
+    → IsRun (work_by words asked) desk desk out out' status
+word_run asked refused words desk out out' status e ends =
+    subst (λ (a : Result Command WordRefused). IsRun (work_by words a) desk desk out out' status) (sym e)
+    (not_begun (word_fault refused) desk out out' status (word_is refused.fault refused.place) ends)
+
+-- the command that was asked for, by the arm that it came to
+pub as_asked : (asked command : Command) (words : List (List ℕ)) (desk : DeskState) (out out' : SinkState) (status : ℕ)
+    → asked ≡ command → IsRun (work_of words command) desk desk out out' status
+    → IsRun (work_of words asked) desk desk out out' status
+as_asked asked command words desk out out' status e run = subst (λ (a : Command). IsRun (work_of words a) desk desk out out' status) (sym e) run

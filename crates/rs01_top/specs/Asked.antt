@@ -1,0 +1,36 @@
+-- The work that words ask for.
+use Rattle.std.specs.Prelude.{ℕ, List, Option, Result, Ok, Err}
+use Rattle.rs01_report.specs.declared.faults.Fault.{Fault}
+use Rattle.rs01_report.specs.declared.faults.Fault.TheVariants as fault
+use Rattle.rs01_words.specs.declared.command.Command.{Command}
+use Rattle.rs01_words.specs.declared.command.Command.TheVariants as command
+use Rattle.rs01_words.specs.declared.fault.WordRefused.{WordRefused}
+use Rattle.rs01_words.specs.Line.{word_at}
+use Rattle.rs01_words.specs.Command.{words_of}
+use Rattle.rs01_top.specs.Create.{create_work}
+use Rattle.rs01_top.specs.Faults.{word_fault}
+use Rattle.rs01_top.specs.Fix.{fix_work}
+use Rattle.rs01_top.specs.Outside.{Outside}
+use Rattle.rs01_top.specs.Verify.{verify_work}
+use Rattle.rs01_top.specs.Work.{Work, no_work}
+
+-- the work of a command: the one place with a row for each
+abbrev pub work_of : List (List ℕ) → Command → Work
+work_of words (command.Create image ecc parity workers) = create_work (word_at words image) (word_at words ecc) parity
+work_of words (command.Fix image ecc workers cut) = fix_work (word_at words image) (word_at words ecc) cut
+work_of words (command.Verify image ecc) = verify_work (word_at words image) (word_at words ecc)
+work_of words (command.Scan ecc drives) = no_work fault.NotBuilt
+work_of words (command.Read image ecc drives adaptive jump tries workers) = no_work fault.NotBuilt
+work_of words (command.Demo number sectors parity lost) = no_work fault.NotBuilt
+
+-- where the words are in the grammar, and else none but to tell their fault
+abbrev pub work_by : List (List ℕ) → Result Command WordRefused → Work
+work_by words (Ok asked) = work_of words asked
+work_by words (Err refused) = no_work (word_fault refused)
+
+abbrev pub work_for : List (List ℕ) → Work
+work_for words = work_by words (words_of words)
+
+-- the first fault of words, or of what is found by them
+abbrev pub first_refusal : List (List ℕ) → Outside → Option Fault
+first_refusal words found = (work_for words).refusal found
