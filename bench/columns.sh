@@ -14,21 +14,9 @@ image=$folder/image
 ecc=$folder/ecc
 peer_ecc=$folder/peer_ecc
 
-# Runs a command on a fresh copy of an image, and leaves its time in `took`, in nanoseconds. The best of three runs.
-# Whether the command ends well is not looked at: the peer's statuses differ, and the images are compared.
-clock() {
-    from=$1
-    shift
-    took=
-    for _ in 1 2 3; do
-        cp "$from" "$image" || return 1
-        begin=$(now)
-        "$@" > /dev/null 2>&1
-        end=$(now)
-        if [ -z "$took" ] || [ $((end - begin)) -lt "$took" ]; then
-            took=$((end - begin))
-        fi
-    done
+# Each run has a fresh copy of the image that `from` names.
+prepare() {
+    cp "$from" "$image"
 }
 
 # Prints a line of the table: the parity, what was done, our time, that of md5sum, and that of the peer or nothing.
@@ -39,10 +27,10 @@ line() {
     }'
 }
 
-# The time of the peer, or nothing where it isn't installed.
+# The time of the peer, or nothing where it isn't installed. How it ends isn't looked at, since its statuses differ.
 peer() {
     if command -v dvdisaster > /dev/null 2>&1; then
-        clock "$@"
+        clock any dvdisaster -i "$image" -e "$peer_ecc" "$@" 2> /dev/null
     else
         took=
     fi
@@ -53,20 +41,23 @@ cp "$original" "$damaged" || exit 1
 dd if=/dev/zero of="$damaged" bs=2048 seek=$((sectors / 2)) count=$((sectors / 20)) conv=notrunc 2> /dev/null || exit 1
 echo "$mebibytes MiB, $(uname -m), $(nproc 2> /dev/null || echo '?') processors, the best of three runs; ratios above 1: faster than the peer"
 printf '%6s %12s %11s %8s %11s %7s %11s %7s\n' parity work time MB/s md5sum ratio dvdisaster ratio
-clock "$original" md5sum "$image"
+from=$original
+clock 0 md5sum "$image" || { echo "md5sum failed"; exit 1; }
 digest=$took
 for parity in 32 64 100; do
-    clock "$original" "$program" create "$image" "$ecc" --parity "$parity"
+    from=$original
+    clock 0 "$program" create "$image" "$ecc" --parity "$parity" || { echo "create failed"; exit 1; }
     ours=$took
-    peer "$original" dvdisaster -i "$image" -e "$peer_ecc" -mRS01 -n "$parity" -c
+    peer -mRS01 -n "$parity" -c
     line "$parity" create "$ours" "$digest" "$took"
-    clock "$original" "$program" fix "$image" "$ecc"
+    clock 0 "$program" fix "$image" "$ecc" || { echo "fix failed"; exit 1; }
     ours=$took
-    peer "$original" dvdisaster -i "$image" -e "$peer_ecc" -f
+    peer -f
     line "$parity" 'fix whole' "$ours" "$digest" "$took"
-    peer "$damaged" dvdisaster -i "$image" -e "$peer_ecc" -f
+    from=$damaged
+    peer -f
     theirs=$took
-    clock "$damaged" "$program" fix "$image" "$ecc"
+    clock 0 "$program" fix "$image" "$ecc" || { echo "fix failed"; exit 1; }
     cmp "$original" "$image" || { echo "fix gave another image"; exit 1; }
     line "$parity" 'fix damaged' "$took" "$digest" "$theirs"
 done

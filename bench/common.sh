@@ -25,3 +25,27 @@ held_by() {
         printf 'unknown'
     fi
 }
+
+# What stands before each timed run: nothing, or what a bench defines in its place.
+prepare() {
+    :
+}
+
+# Runs a command three times with its output thrown away, and leaves the best time in `took`, in nanoseconds. The first
+# word is the status that each run is to end with, or `any`.
+clock() {
+    wanted=$1
+    shift
+    took=
+    for _ in 1 2 3; do
+        prepare || return 1
+        begin=$(now)
+        "$@" > /dev/null
+        status=$?
+        end=$(now)
+        [ "$wanted" = any ] || [ "$status" -eq "$wanted" ] || return 1
+        if [ -z "$took" ] || [ $((end - begin)) -lt "$took" ]; then
+            took=$((end - begin))
+        fi
+    done
+}

@@ -4,19 +4,6 @@
 . "$(dirname "$0")/common.sh"
 parity=${1:-32}
 
-# Runs a command with its output thrown away, and leaves its time in `took`, in nanoseconds. The best of three runs.
-clock() {
-    took=
-    for _ in 1 2 3; do
-        begin=$(now)
-        "$@" > /dev/null || return 1
-        end=$(now)
-        if [ -z "$took" ] || [ $((end - begin)) -lt "$took" ]; then
-            took=$((end - begin))
-        fi
-    done
-}
-
 echo "parity $parity, $(uname -m), $(nproc 2> /dev/null || echo '?') processors, the best of three runs"
 printf '%8s %11s %8s %11s %8s %8s %12s\n' image create MB/s md5sum MB/s ratio 'memory MiB'
 for mebibytes in 4 16 64; do
@@ -24,9 +11,9 @@ for mebibytes in 4 16 64; do
     ecc=$folder/ecc
     bytes=$((mebibytes * 1048576))
     head -c "$bytes" /dev/urandom > "$image" || exit 1
-    clock "$program" create "$image" "$ecc" --parity "$parity" || { echo "create failed"; exit 1; }
+    clock 0 "$program" create "$image" "$ecc" --parity "$parity" || { echo "create failed"; exit 1; }
     create=$took
-    clock md5sum "$image" || { echo "md5sum failed"; exit 1; }
+    clock 0 md5sum "$image" || { echo "md5sum failed"; exit 1; }
     digest=$took
     held=$(held_by "$program" create "$image" "$ecc" --parity "$parity")
     awk -v m="$mebibytes" -v b="$bytes" -v c="$create" -v d="$digest" -v h="$held" 'BEGIN {

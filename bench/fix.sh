@@ -11,28 +11,14 @@ damaged=$folder/damaged
 image=$folder/image
 ecc=$folder/ecc
 
-# Runs a command that is to end with the first word as its status, on a fresh copy of the damaged image and with its
-# output thrown away, and leaves its time in `took`, in nanoseconds. The best of three runs.
-clock() {
-    wanted=$1
-    shift
-    took=
-    for _ in 1 2 3; do
-        cp "$damaged" "$image" || return 1
-        begin=$(now)
-        "$@" > /dev/null
-        status=$?
-        end=$(now)
-        [ "$status" -eq "$wanted" ] || return 1
-        if [ -z "$took" ] || [ $((end - begin)) -lt "$took" ]; then
-            took=$((end - begin))
-        fi
-    done
+# Each run has a fresh copy of the damaged image.
+prepare() {
+    cp "$damaged" "$image"
 }
 
 # The most memory that a command of the program held on the damaged image, in MiB.
 memory() {
-    cp "$damaged" "$image" || return 1
+    prepare || return 1
     held_by "$program" "$1" "$image" "$ecc"
 }
 
