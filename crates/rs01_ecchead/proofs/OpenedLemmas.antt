@@ -1,5 +1,5 @@
 -- What is told of a file that was found to have n bytes.
-use Rattle.std.proofs.Common.{◌≡◌, ◌≢◌, ℕ, ◌<◌, ◌≤◌, List, [], length, take, drop, refl, sym, ap, ◌∙◌, arith, Bool, true, false}
+use Rattle.std.proofs.Common.{◌≡◌, ◌≢◌, ℕ, ◌<◌, ◌≤◌, List, [], length, take, drop, refl, sym, ap, ◌∙◌, arith, true, false}
 use Rattle.std.specs.Prelude.{Option, Some, None, Result, Ok, Err, ◌==◌, not, if◌then◌else◌}
 use Rattle.std.specs.Option.{option_map, unwrap_or}
 use Rattle.std.specs.Str.{bytes_eq}
@@ -13,10 +13,13 @@ use Rattle.rs01_ecchead.specs.declared.opened.EccRefusal.{EccRefusal}
 use Rattle.rs01_ecchead.specs.declared.opened.EccRefusal.TheVariants.{Body, Head, NoFile, OutOfMemory, ReadFault, Size}
 use Rattle.rs01_ecchead.specs.Header.{Fields, head_of}
 use Rattle.rs01_ecchead.specs.Opened.{IsOfFile, Opened, opened, opened_as, opened_by, opened_file, opened_with}
-use Rattle.rs01_ecchead.specs.Opening.{IsOfHeader, Opens, ReadsHeader}
+use Rattle.rs01_ecchead.specs.Opening.{IsBody, IsJudged, IsOfHeader, Opens, ReadsHeader}
 use Rattle.rs01_ecchead.specs.Head.{fields_of}
 use Rattle.rs01_ecchead.specs.Recorded.{parity_in, sums_in}
 use Rattle.rs01_ecchead.specs.declared.opened.Ecc.{Ecc}
+use Rattle.rs01_ecchead.specs.declared.opening.Body.{Body as BodyRead}
+use Rattle.rs01_ecchead.specs.declared.head.Head as told
+use Rattle.rs01_sums.specs.Checksums.{Checksums}
 
 pub too_short : (o : Option (List ℕ)) (n : ℕ) → Some n ≡ option_map length o → n < 4096 → opened_file o ≡ Err (Size n 4096)
 unfolding opened
@@ -84,23 +87,14 @@ pub head_then : (f0 f1 : Files) (name : List ℕ) (n : ℕ) (r : Result Fields H
 head_then f0 f1 name n r e same l read =
     ap (λ (f : Files). head_of (take 4096 (bytes_of f name))) (sym same) ∙ read (omega (arith, long_then f0 f1 name n e same))
 
-pub digest_then : (f0 f1 : Files) (name : List ℕ) (n want : ℕ) (digest : List ℕ) → Some n ≡ option_map length (f0 name) → f1 ≡ f0 → n ≡ want
-    → (length (bytes_of f1 name) ≡ want → digest ≡ md5 (drop 4096 (bytes_of f1 name))) → digest ≡ md5 (drop 4096 (bytes_of f0 name))
-digest_then f0 f1 name n want digest e same size read =
-    read (long_then f0 f1 name n e same ∙ size) ∙ ap (λ (f : Files). md5 (drop 4096 (bytes_of f name))) same
-
-pub sums_then : (f0 f1 : Files) (name : List ℕ) (n want : ℕ) (sums : List ℕ) (m k : ℕ) → Some n ≡ option_map length (f0 name) → f1 ≡ f0 → n ≡ want → m ≡ k
-    → (length (bytes_of f1 name) ≡ want → sums ≡ sums_in (bytes_of f1 name) m) → sums ≡ sums_in (bytes_of f0 name) k
-sums_then f0 f1 name n want sums m k e same size count read =
-    read (long_then f0 f1 name n e same ∙ size) ∙ (λ i. sums_in (bytes_of (same i) name) (count i))
-
-pub differs : (b r : Bool) → r ≡ not b → r ≡ true → b ≡ false
-differs true r e t = cc
-differs false r e t = refl
-
-pub agrees : (b r : Bool) → r ≡ not b → r ≡ false → b ≡ true
-agrees true r e t = refl
-agrees false r e t = cc
+pub body_then : (f0 f1 : Files) (name : List ℕ) (n want : ℕ) (body : BodyRead) (m k : ℕ) → Some n ≡ option_map length (f0 name) → f1 ≡ f0 → n ≡ want → m ≡ k
+    → (length (bytes_of f1 name) ≡ want → IsBody (bytes_of f1 name) m body) → IsBody (bytes_of f0 name) k body
+body_then f0 f1 name n want body m k e same size count read =
+    let is = read (long_then f0 f1 name n e same ∙ size) in
+    record {
+      sums = is.sums ∙ (λ i. sums_in (bytes_of (same i) name) (count i));
+      digest = is.digest ∙ ap (λ (f : Files). md5 (drop 4096 (bytes_of f name))) same;
+    }
 
 -- a refusal of the header alone
 by_header : (o : Option (List ℕ)) (n : ℕ) (w : EccRefusal) → Some n ≡ option_map length o → 4096 ≤ n → IsOfHeader w → IsOfFile w
@@ -126,3 +120,17 @@ pub body_agrees : (o : Option (List ℕ)) (n : ℕ) (ecc : Ecc) (digest : List �
 body_agrees o n ecc digest e l h size d test sums =
     all_right o n (fields_of ecc.head) digest e l h size d test
     ∙ ap (λ xs. let answer : Result Opened EccRefusal = Ok (record { fields = fields_of ecc.head; sums = xs; parity = parity_in (unwrap_or o []) ecc.head.sectors ecc.head.parity }) in answer) (sym sums)
+
+-- the answer to a file whose header and length are right
+pub judged_so : (o : Option (List ℕ)) (n : ℕ) (head : told.Head) (body : BodyRead) (answer : Result Ecc EccRefusal) → IsJudged head body answer → Some n ≡ option_map length o
+    → 4096 ≤ n → head_of (take 4096 (unwrap_or o [])) ≡ Ok (fields_of head) → n ≡ file_size head.sectors head.parity → IsBody (unwrap_or o []) head.sectors body
+    → Opens o answer
+judged_so o n head body (Ok kept) judged e l h size is =
+    let back = sym judged.same_head in
+    body_agrees o n kept body.digest e l (h ∙ ap (λ (x : told.Head). let answer : Result Fields HeadRefusal = Ok (fields_of x) in answer) back)
+    (size ∙ ap (λ (x : told.Head). file_size x.sectors x.parity) back) is.digest
+    (ap (λ (x : told.Head). bytes_eq body.digest x.body_sum) judged.same_head ∙ judged.agrees)
+    (ap (λ (x : Checksums). x.list) judged.same_sums ∙ is.sums ∙ ap (λ (x : told.Head). sums_in (unwrap_or o []) x.sectors) back)
+judged_so o n head body (Err why) judged e l h size is = λ of.
+    bad_body o n (fields_of head) body.digest e l h size is.digest judged.0
+    ∙ ap (λ (x : EccRefusal). let answer : Result Opened EccRefusal = Err x in answer) (sym judged.1)

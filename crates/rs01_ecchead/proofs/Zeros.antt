@@ -1,9 +1,8 @@
 -- Bytes put in front of zeros.
-use Rattle.std.proofs.Common.{◌≡◌, ℕ, ◌+◌, ◌-◌, List, ◌++◌, length, take, drop, refl, sym, ap, ◌∙◌}
+use Rattle.std.proofs.Common.{◌≡◌, ℕ, ◌+◌, ◌-◌, List, [], ◌∷◌, ◌++◌, length, take, drop, refl, sym, ap, subst, ◌∙◌, arith, append_assoc, append-nil}
 use Rattle.std.proofs.Math.Seq.{take-append_seam, drop-append-add}
 use Rattle.std.proofs.lemmas.List.{drop-replicate}
 use Rattle.std.proofs.Math.ListN.{length-append}
-use Rattle.std.proofs.Common.{[], append_assoc}
 use Rattle.std.specs.Prelude.{codes}
 use Rattle.std.specs.Int.{to_le_bytes, w32, w64}
 use Rattle.rs01_ecchead.specs.Header.{Puts, Fields, head_bytes, front_bytes, number_bytes, end_bytes}
@@ -18,13 +17,31 @@ over_zeros before bytes xs at left e z =
     (λ i. take (sym e i) (z i) ++ bytes ++ drop (sym e i + length bytes) (z i))
     ∙ (λ i. take-append_seam before (zeros left) i ++ bytes ++ (drop-append-add before (zeros left) (length bytes) ∙ drop-replicate (length bytes) left 0) i)
 
-long : (xs ys : List ℕ) (m n : ℕ) → length xs ≡ m → length ys ≡ n → length (xs ++ ys) ≡ m + n
-long xs ys m n e f = length-append xs ys ∙ (λ i. e i + f i)
+-- pieces put at places, one after the other
+abbrev AllPut : List (ℕ × List ℕ) → List ℕ → List ℕ → Type 0
+AllPut [] old new = new ≡ old
+AllPut (piece ∷ rest) old new = (between : List ℕ) × (Puts piece.0 piece.1 old between × AllPut rest between new)
 
--- one more piece of a known length
-more : (at left n : ℕ) (before bytes old new : List ℕ) → Puts at bytes old new → length before ≡ at → length bytes ≡ n → old ≡ before ++ zeros left
-    → new ≡ (before ++ bytes) ++ zeros (left - n)
-more at left n before bytes old new put e f held = put before left e held ∙ ap (λ k. (before ++ bytes) ++ zeros (left - k)) f
+-- each place is where the piece before ends
+abbrev Follow : ℕ → List (ℕ × List ℕ) → Type 0
+Follow at [] = Unit {0}
+Follow at (piece ∷ rest) = (piece.0 ≡ at) × Follow (piece.0 + length piece.1) rest
+
+abbrev all_bytes : List (ℕ × List ℕ) → List ℕ
+all_bytes [] = []
+all_bytes (piece ∷ rest) = piece.1 ++ all_bytes rest
+
+-- they come behind what stands before
+all_put : (pieces : List (ℕ × List ℕ)) (before old new : List ℕ) (left : ℕ) → Follow (length before) pieces → AllPut pieces old new
+    → old ≡ before ++ zeros left → new ≡ (before ++ all_bytes pieces) ++ zeros (left - length (all_bytes pieces))
+all_put [] before old new left places put held =
+    let none : left ≡ left - 0 = omega arith in
+    put ∙ held ∙ (λ i. sym (append-nil before) i ++ zeros (none i))
+all_put (piece ∷ rest) before old new left places put held =
+    let end : piece.0 + length piece.1 ≡ length (before ++ piece.1) = omega (arith, places.0, length-append before piece.1) in
+    let less : left - length piece.1 - length (all_bytes rest) ≡ left - length (piece.1 ++ all_bytes rest) = omega (arith, length-append piece.1 (all_bytes rest)) in
+    all_put rest (before ++ piece.1) put.0 new (left - length piece.1) (subst (λ (n : ℕ). Follow n rest) end places.1) put.1.1 (put.1.0 before left (sym places.0) held)
+    ∙ (λ i. append_assoc before piece.1 (all_bytes rest) i ++ zeros (less i))
 
 -- the twelve pieces of a header, with 20 zeros before the last and zeros behind it
 pub header_is : (texts flags fp im bs ns ds rs cs vs ms ls o0 o1 o2 o3 o4 o5 o6 o7 o8 o9 o10 o11 o12 : List ℕ)
@@ -34,41 +51,21 @@ pub header_is : (texts flags fp im bs ns ds rs cs vs ms ls o0 o1 o2 o3 o4 o5 o6 
     → Puts 80 rs o7 o8 → Puts 84 cs o8 o9 → Puts 88 vs o9 o10 → Puts 92 ms o10 o11 → Puts 116 ls o11 o12
     → o12 ≡ (texts ++ (flags ++ (fp ++ (im ++ bs)))) ++ ((ns ++ (ds ++ (rs ++ (cs ++ (vs ++ ms))))) ++ (zeros 20 ++ (ls ++ zeros 3976)))
 header_is texts flags fp im bs ns ds rs cs vs ms ls o0 o1 o2 o3 o4 o5 o6 o7 o8 o9 o10 o11 o12 l1 l2 l3 l4 l5 l6 l7 l8 l9 l10 l11 l12 z p1 p2 p3 p4 p5 p6 p7 p8 p9 p10 p11 p12 =
-    let e1 : o1 ≡ texts ++ zeros 4080 = more 0 4096 16 [] texts o0 o1 p1 refl l1 z in
-    let b2 = texts ++ flags in
-    let e2 : o2 ≡ b2 ++ zeros 4076 = more 16 4080 4 texts flags o1 o2 p2 l1 l2 e1 in
-    let n2 : length b2 ≡ 20 = long texts flags 16 4 l1 l2 in
-    let b3 = b2 ++ fp in
-    let e3 : o3 ≡ b3 ++ zeros 4060 = more 20 4076 16 b2 fp o2 o3 p3 n2 l3 e2 in
-    let n3 : length b3 ≡ 36 = long b2 fp 20 16 n2 l3 in
-    let b4 = b3 ++ im in
-    let e4 : o4 ≡ b4 ++ zeros 4044 = more 36 4060 16 b3 im o3 o4 p4 n3 l4 e3 in
-    let n4 : length b4 ≡ 52 = long b3 im 36 16 n3 l4 in
-    let b5 = b4 ++ bs in
-    let e5 : o5 ≡ b5 ++ zeros 4028 = more 52 4044 16 b4 bs o4 o5 p5 n4 l5 e4 in
-    let n5 : length b5 ≡ 68 = long b4 bs 52 16 n4 l5 in
-    let b6 = b5 ++ ns in
-    let e6 : o6 ≡ b6 ++ zeros 4020 = more 68 4028 8 b5 ns o5 o6 p6 n5 l6 e5 in
-    let n6 : length b6 ≡ 76 = long b5 ns 68 8 n5 l6 in
-    let b7 = b6 ++ ds in
-    let e7 : o7 ≡ b7 ++ zeros 4016 = more 76 4020 4 b6 ds o6 o7 p7 n6 l7 e6 in
-    let n7 : length b7 ≡ 80 = long b6 ds 76 4 n6 l7 in
-    let b8 = b7 ++ rs in
-    let e8 : o8 ≡ b8 ++ zeros 4012 = more 80 4016 4 b7 rs o7 o8 p8 n7 l8 e7 in
-    let n8 : length b8 ≡ 84 = long b7 rs 80 4 n7 l8 in
-    let b9 = b8 ++ cs in
-    let e9 : o9 ≡ b9 ++ zeros 4008 = more 84 4012 4 b8 cs o8 o9 p9 n8 l9 e8 in
-    let n9 : length b9 ≡ 88 = long b8 cs 84 4 n8 l9 in
-    let b10 = b9 ++ vs in
-    let e10 : o10 ≡ b10 ++ zeros 4004 = more 88 4008 4 b9 vs o9 o10 p10 n9 l10 e9 in
-    let n10 : length b10 ≡ 92 = long b9 vs 88 4 n9 l10 in
-    let b11 = b10 ++ ms in
-    let e11 : o11 ≡ b11 ++ zeros 4000 = more 92 4004 4 b10 ms o10 o11 p11 n10 l11 e10 in
-    let n11 : length b11 ≡ 96 = long b10 ms 92 4 n10 l11 in
-    let gap : o11 ≡ (b11 ++ zeros 20) ++ zeros 3980 = e11 ∙ ap (λ xs. b11 ++ xs) (zeros-add 20 3980) ∙ sym (append_assoc b11 (zeros 20) (zeros 3980)) in
-    let n12 : length (b11 ++ zeros 20) ≡ 116 = long b11 (zeros 20) 96 20 n11 (length-zeros 20) in
-    let e12 : o12 ≡ ((b11 ++ zeros 20) ++ ls) ++ zeros 3976 = more 116 3980 4 (b11 ++ zeros 20) ls o11 o12 p12 n12 l12 gap in
-    e12 ∙ simp append_assoc
+    let pieces : List (ℕ × List ℕ) =
+    (0, texts) ∷ (16, flags) ∷ (20, fp) ∷ (36, im) ∷ (52, bs) ∷ (68, ns) ∷ (76, ds) ∷ (80, rs) ∷ (84, cs) ∷ (88, vs) ∷ (92, ms) ∷ [] in
+    let front = all_bytes pieces in
+    let long : length front ≡ 96 = simp length-append (omega arith) in
+    let put : o11 ≡ front ++ zeros (4096 - length front) =
+    all_put pieces [] o0 o11 4096
+    (refl, (omega arith, (omega arith, (omega arith, (omega arith, (omega arith, (omega arith, (omega arith, (omega arith, (omega arith, (omega arith, tt)))))))))))
+    (o1, (p1, (o2, (p2, (o3, (p3, (o4, (p4, (o5, (p5, (o6, (p6, (o7, (p7, (o8, (p8, (o9, (p9, (o10, (p10, (o11, (p11, refl)))))))))))))))))))))) z in
+    let rest : 4096 - length front ≡ 4000 = omega (arith, long) in
+    let gap : o11 ≡ (front ++ zeros 20) ++ zeros 3980 =
+    put ∙ ap (λ k. front ++ zeros k) rest ∙ ap (λ xs. front ++ xs) (zeros-add 20 3980) ∙ sym (append_assoc front (zeros 20) (zeros 3980)) in
+    let place : length (front ++ zeros 20) ≡ 116 = omega (arith, long, length-append front (zeros 20), length-zeros 20) in
+    p12 (front ++ zeros 20) 3980 place gap
+    ∙ ap (λ k. ((front ++ zeros 20) ++ ls) ++ zeros (3980 - k)) l12
+    ∙ simp (append_assoc, append-nil)
 
 -- the pieces of a header are its bytes
 pub pieces_are : (f : Fields) (xs : List ℕ)

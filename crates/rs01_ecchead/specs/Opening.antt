@@ -1,11 +1,17 @@
 -- What opening a file answers.
-use Rattle.std.specs.Prelude.{ℕ, ◌≡◌, ◌≢◌, List, [], take, Option, Result, Ok, Err}
+use Rattle.std.specs.Prelude.{ℕ, ◌≡◌, ◌≢◌, List, [], length, take, drop, false, true, Option, Result, Ok, Err}
 use Rattle.std.specs.Option.{unwrap_or}
+use Rattle.std.specs.Str.{bytes_eq}
+use Rattle.md5.specs.Md5.{md5}
+use Rattle.rs01_layers.specs.Layout.{file_size}
+use Rattle.rs01_layers.specs.declared.shape.Shape.{Shape}
 use Rattle.rs01_ecchead.specs.Head.{fields_of}
 use Rattle.rs01_ecchead.specs.Header.{head_of}
 use Rattle.rs01_ecchead.specs.Opened.{IsOfFile, opened_as, opened_file}
+use Rattle.rs01_ecchead.specs.Recorded.{sums_in}
 use Rattle.rs01_ecchead.specs.declared.head.Head.{Head}
 use Rattle.rs01_ecchead.specs.declared.opened.Ecc.{Ecc}
+use Rattle.rs01_ecchead.specs.declared.opening.Body.{Body}
 use Rattle.rs01_ecchead.specs.declared.opened.EccRefusal.{EccRefusal}
 use Rattle.rs01_ecchead.specs.declared.opened.EccRefusal.TheVariants as ecc
 
@@ -28,14 +34,23 @@ IsOfHeader (ecc.Body have want) = ⊥
 IsOfHeader ecc.ReadFault = Unit {0}
 IsOfHeader ecc.OutOfMemory = ⊥
 
--- a refusal that comes from reading what stands behind it
-abbrev pub IsOfBody : EccRefusal → Type 0
-IsOfBody ecc.NoFile = ⊥
-IsOfBody (ecc.Head why) = ⊥
-IsOfBody (ecc.Size have want) = ⊥
-IsOfBody (ecc.Body have want) = ⊥
-IsOfBody ecc.ReadFault = Unit {0}
-IsOfBody ecc.OutOfMemory = Unit {0}
+-- what stands behind the header of a file that is as long as its shape asks for
+pub record IsBody (file : List ℕ) (n : ℕ) (body : Body) : Type 0 where
+  pub sums : body.sums.list ≡ sums_in file n
+  pub digest : body.digest ≡ md5 (drop 4096 file)
+
+abbrev pub IsBodyOf : List ℕ → Shape → Body → Type 0
+IsBodyOf file shape body = length file ≡ file_size shape.sectors shape.parity → IsBody file shape.sectors body
+
+-- it is kept beside the header where its digest is the recorded one, and refused else
+pub record IsKept (head : Head) (body : Body) (kept : Ecc) : Type 0 where
+  pub agrees : bytes_eq body.digest head.body_sum ≡ true
+  pub same_head : kept.head ≡ head
+  pub same_sums : kept.sums ≡ body.sums
+
+abbrev pub IsJudged : Head → Body → Result Ecc EccRefusal → Type 0
+IsJudged head body (Ok kept) = IsKept head body kept
+IsJudged head body (Err why) = (bytes_eq body.digest head.body_sum ≡ false) × (why ≡ ecc.Body body.digest head.body_sum)
 
 -- a refusal that tells two values tells different ones
 abbrev pub TellsTwo : EccRefusal → Type 0

@@ -20,7 +20,7 @@ pub use head_read::read_head;
 pub use head_write::write_head;
 pub use opened::{Ecc, EccRefusal, Which};
 pub use opening::open_ecc;
-pub use pieces::read_piece;
+pub use pieces::{read_bytes, read_piece};
 pub use runs::read_run;
 pub use sectors::sector_in;
 pub use walk::{Visitor, WalkFault, walk_image};

@@ -2,10 +2,10 @@
 ghost use Rattle.std.specs.Prelude.{◌≡◌, length};
 
 use crate::head::{Head, HeadRefusal};
+use crate::walk::WalkFault;
 use rs01_layers::{Extent, Shape};
 use rs01_outside::Failed;
 use rs01_sums::Sums;
-use std::alloc::AllocError;
 use thiserror::Error;
 
 /// One of the two files that belong together.
@@ -51,13 +51,16 @@ impl From<Failed> for EccRefusal {
     }
 }
 
-impl From<AllocError> for EccRefusal {
-    ghost use Rattle.rs01_ecchead.specs.declared.opened.EccRefusal.TheVariants.{OutOfMemory};
+impl From<WalkFault> for EccRefusal {
+    ghost use Rattle.rs01_ecchead.specs.Walked.{walk_refusal};
 
-    ghost from_gives = { λ _ why. why ≡ OutOfMemory };
+    ghost from_gives = { λ of why. why ≡ walk_refusal of };
 
-    fn from(_lack: AllocError) -> EccRefusal {
-        EccRefusal::OutOfMemory
+    fn from(why: WalkFault) -> EccRefusal {
+        match why {
+            WalkFault::ReadFault => EccRefusal::ReadFault,
+            WalkFault::OutOfMemory => EccRefusal::OutOfMemory,
+        }
     }
 }
 

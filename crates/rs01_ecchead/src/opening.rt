@@ -1,64 +1,83 @@
 //! Opening an error correction file: its header, its length, its checksums and its digest.
-ghost use Rattle.std.specs.Prelude.{◌≡◌, ◌≤◌, IfErr, IfOk, IsTrue, drop, length};
-ghost use Rattle.md5.specs.Md5.{md5};
+ghost use Rattle.std.specs.Prelude.{◌≡◌, IfErr, IfOk, IsTrue, false, length};
 ghost use Rattle.rs01_outside.specs.DeskState.{InFile, OnlyReads};
-ghost use Rattle.rs01_layers.specs.Layout.{file_size};
 ghost use Rattle.rs01_ecchead.specs.Opened.{is_read_fault};
-ghost use Rattle.rs01_ecchead.specs.Opening.{IsOfBody, IsOfHeader, Opens, ReadsHeader, TellsTwo};
-ghost use Rattle.rs01_ecchead.specs.Recorded.{sums_in};
+ghost use Rattle.rs01_ecchead.specs.Opening.{IsJudged, IsOfHeader, Opens, ReadsHeader, TellsTwo};
+ghost use Rattle.rs01_ecchead.specs.Pieces.{InFileTo};
+ghost use Rattle.rs01_ecchead.specs.Walked.{is_walk_fault};
 
 use crate::head::Head;
 use crate::head_read::read_head;
 use crate::opened::{Ecc, EccRefusal};
 use crate::pieces::{add_rest, read_piece};
-use crate::recorded::add_sums;
+use crate::recorded::read_sums;
+use crate::walk::WalkFault;
 use md5::{Digest, Md5};
 use rs01_layers::Shape;
-use rs01_lists::zeroed;
 use rs01_outside::Desk;
 use rs01_sums::Sums;
 use std::alloc::Global;
 
-// How many bytes of a file are read at once.
-const PIECE: usize = 65536;
+// What stands behind a header: the recorded checksums, and the digest of all of it.
+#[derive(Drop)]
+struct Body {
+    sums: Sums,
+    digest: [u8; 16],
+}
 
-// The recorded checksums, and the digest of all that stands behind the header. The whole is read once.
+ghost use Rattle.rs01_ecchead.specs.Opening.{IsBodyOf};
+
+// Reads what stands behind the header once.
 fn read_body<D: Desk>(
     alloc: Global,
     desk: &mut D,
     name: &str,
     shape: &Shape,
-) -> Result<(Sums, [u8; 16]), EccRefusal>
-    ensures reads { OnlyReads (D.state desk.old) (D.state desk.new) (is_read_fault result) }
-    ensures len { IfOk result (λ read. length read.0.list ≡ shape.now.sectors) }
-    ensures sums { InFile (D.state desk.old) name.now (λ file.
-        length file ≡ file_size shape.now.sectors shape.now.parity
-        → IfOk result (λ read. read.0.list ≡ sums_in file shape.now.sectors)) }
-    ensures digest { InFile (D.state desk.old) name.now (λ file.
-        length file ≡ file_size shape.now.sectors shape.now.parity
-        → IfOk result (λ read. read.1 ≡ md5 (drop 4096 file))) }
-    ensures causes { IfErr result IsOfBody }
+) -> Result<Body, WalkFault>
+    ensures reads { OnlyReads (D.state desk.old) (D.state desk.new) (is_walk_fault result) }
+    ensures len { IfOk result (λ body. length body.sums.list ≡ shape.now.sectors) }
+    ensures body { InFile (D.state desk.old) name.now
+        (λ file. IfOk result (IsBodyOf file shape.now)) }
 {
-    let mut piece = zeroed(alloc, PIECE)?;
-    let mut sums = Sums::new(alloc, shape.sectors())?;
     let mut hasher = Md5::new();
     let count = shape.sectors();
-    add_sums(desk, name, count, &mut piece, &mut hasher, &mut sums)?;
+    let sums = read_sums(alloc, desk, name, count, &mut hasher)?;
     let from = 4096 + 4 * u64::from(count);
-    add_rest(desk, name, from, shape.file_size(), &mut piece, &mut hasher)?;
-    Ok((sums, hasher.finalize()))
+    add_rest(alloc, desk, name, from, shape.file_size(), &mut hasher)?;
+    Ok(Body {
+        sums,
+        digest: hasher.finalize(),
+    })
 }
 
 // Reads the header of a file that has at least 4096 bytes.
 fn read_header<D: Desk>(desk: &mut D, name: &str) -> Result<Head, EccRefusal>
     ensures reads { OnlyReads (D.state desk.old) (D.state desk.new) (is_read_fault result) }
-    ensures header { InFile (D.state desk.old) name.now
-        (λ file. 4096 ≤ length file → ReadsHeader file result) }
+    ensures header { InFileTo (D.state desk.old) name.now 4096 (λ file. ReadsHeader file result) }
     ensures causes { IfErr result IsOfHeader }
 {
     let mut header = [0u8; 4096];
     read_piece(desk, name, 0, &mut header)?;
     Ok(read_head(&header)?)
+}
+
+// Keeps what was read, where its digest is the recorded one.
+fn judge_body(head: Head, body: Body) -> Result<Ecc, EccRefusal>
+    requires { length body.sums.list ≡ head.sectors }
+    ensures judged { IsJudged head body result }
+    ensures reads { is_read_fault result ≡ false }
+    ensures differ { IfErr result TellsTwo }
+{
+    if body.digest != head.body_sum {
+        return Err(EccRefusal::Body {
+            have: body.digest,
+            want: head.body_sum,
+        });
+    }
+    Ok(Ecc {
+        head,
+        sums: body.sums,
+    })
 }
 
 /// Opens an error correction file: reads its header, and reads the rest once in pieces, for its digest and for the
@@ -81,12 +100,6 @@ pub fn open_ecc<D: Desk>(alloc: Global, desk: &mut D, name: &str) -> Result<Ecc,
     if have != want {
         return Err(EccRefusal::Size { have, want });
     }
-    let (sums, digest) = read_body(alloc, desk, name, &shape)?;
-    if digest != head.body_sum {
-        return Err(EccRefusal::Body {
-            have: digest,
-            want: head.body_sum,
-        });
-    }
-    Ok(Ecc { head, sums })
+    let body = read_body(alloc, desk, name, &shape)?;
+    judge_body(head, body)
 }

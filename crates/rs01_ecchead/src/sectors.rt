@@ -28,7 +28,7 @@ pub fn read_padded<D: Desk>(
 }
 
 /// Reads the block of a sector of an image file: the sector's bytes, and zeros up to 2048. False exactly where the file,
-/// which was found to have `size` bytes, is too short for the sector; then nothing is read.
+/// which was found to have `size` bytes, is too short for the sector, and then nothing is said of what `into` holds.
 pub fn sector_in<D: Desk>(
     desk: &mut D,
     name: &str,

@@ -1,9 +1,8 @@
 //! One walk over an image, which shows each of its sectors.
-ghost use Rattle.std.specs.Prelude.{◌≡◌, ◌+◌, ◌-◌, ◌*◌, ◌/◌, ◌<◌, ◌≤◌, List, OnOk, length, ℕ};
+ghost use Rattle.std.specs.Prelude.{◌≡◌, ◌+◌, ◌<◌, ◌≤◌, OnOk, length, ℕ};
 ghost use Rattle.rs01_lists.specs.Bytes.{part};
 ghost use Rattle.rs01_outside.specs.DeskState.{InFile, OnlyReads};
-ghost use Rattle.rs01_ecchead.specs.Runs.{IsRun};
-ghost use Rattle.rs01_ecchead.specs.Shown.{IsSector, Shown, shown_in};
+ghost use Rattle.rs01_ecchead.specs.Shown.{IsAmong, IsSector, KeepsOn, Shown, Spans, shown_in};
 
 use crate::runs::read_run;
 use rs01_layers::Extent;
@@ -49,7 +48,7 @@ pub trait Visitor {
             → keeps self.now image sector kept.old → keeps self.now image (sector + 1) kept.new) };
 }
 
-/// Why an image wasn't walked over to its end.
+/// Why a file wasn't read as far as was asked: an image to its last sector, or bytes from a place on.
 #[derive(Clone, Copy, PartialEq, Eq, Debug, Error)]
 pub enum WalkFault {
     /// Reading the file failed.
@@ -100,16 +99,12 @@ fn show_one<V: Visitor>(
     visitor: &V,
     kept: &mut V::Kept,
 ) -> Result<(), AllocError>
-    requires from { first ≤ sector }
-    requires within { sector < first + length run.now / 2048 }
-    requires below { sector < extent.now.sectors }
+    requires among { IsAmong extent.now first run.now sector }
     requires count { V.count visitor.now ≡ extent.now.sectors }
     requires fits { V.fits visitor.now sector kept.old }
     ensures fits { OnOk result (V.fits visitor.now (sector + 1) kept.new) }
-    ensures keeps { OnOk result ((file : List ℕ) → let n = extent.now.sectors in
-        let last = extent.now.last_bytes in let image = shown_in file n last size in
-        IsRun file n last first run.now → V.keeps visitor.now image sector kept.old
-        → V.keeps visitor.now image (sector + 1) kept.new) }
+    ensures keeps { OnOk result (KeepsOn (V.keeps visitor.now) size extent.now first run.now
+        sector kept.old (sector + 1) kept.new) }
 {
     let len = extent.length(sector);
     let there = 2048 * u64::from(sector) + u64::from(len) <= size;
@@ -129,16 +124,12 @@ fn show_run<V: Visitor>(
     visitor: &V,
     kept: &mut V::Kept,
 ) -> Result<(), AllocError>
-    requires order { first ≤ past }
-    requires inside { past ≤ extent.now.sectors }
-    requires all { length run.now ≡ 2048 * (past - first) }
+    requires spans { Spans extent.now first past run.now }
     requires count { V.count visitor.now ≡ extent.now.sectors }
     requires fits { V.fits visitor.now first kept.old }
     ensures fits { OnOk result (V.fits visitor.now past kept.new) }
-    ensures keeps { OnOk result ((file : List ℕ) → let n = extent.now.sectors in
-        let last = extent.now.last_bytes in let image = shown_in file n last size in
-        IsRun file n last first run.now → V.keeps visitor.now image first kept.old
-        → V.keeps visitor.now image past kept.new) }
+    ensures keeps { OnOk result (KeepsOn (V.keeps visitor.now) size extent.now first run.now
+        first kept.old past kept.new) }
 {
     for sector in first..past {
         show_one(size, extent, first, run, sector, visitor, kept)?;

@@ -4,7 +4,7 @@ use Rattle.std.proofs.lemmas.Result.{err_from_is_err_and}
 use Rattle.rs01_layers.specs.Layout.{file_size}
 use Rattle.rs01_ecchead.specs.declared.opened.EccRefusal.TheVariants.{Size}
 use Rattle.rs01_ecchead.specs.Head.{fields_of}
-use Rattle.rs01_ecchead.proofs.OpenedLemmas.{too_short, header_refuses, bad_size, bad_body, body_agrees, head_then, digest_then, sums_then, differs, agrees}
+use Rattle.rs01_ecchead.proofs.OpenedLemmas.{too_short, header_refuses, bad_size, body_then, head_then, judged_so}
 use Rattle.rs01_ecchead.proofs.opening.open_ecc.Goals as goal
 
 pub returns-then-have-lt4096-clause-answer : goal.returns-then-have-lt4096-clause-answer
@@ -27,19 +27,6 @@ returns-then-have-want-clause-answer g c = λ t _.
     bad_size _ _ (fields_of c.in_ok-head.head) size c.if-have-lt4096.false head (λ e. c.if-have-want.true (e ∙ sym wanted))
     ∙ ap (λ n. Err (Size c.in-Some.have n)) (sym wanted)
 
-pub returns-then-ne-clause-answer : goal.returns-then-ne-clause-answer
-returns-then-ne-clause-answer g c = λ t _.
-    let size = sym c.in-Some.is ∙ c.in_ok-have.ensures.size t in
-    let told = subst IsTrue (sym c.in_ok-have.ensures.reads.tells) t in
-    let still = subst IsTrue (sym c.in_ok-head.ensures.reads.tells) told in
-    let same = c.in_ok-head.ensures.reads.unchanged told ∙ c.in_ok-have.ensures.reads.unchanged t in
-    let head = head_then _ _ c.args.name.now _ (Ok (fields_of c.in_ok-head.head)) size (c.in_ok-have.ensures.reads.unchanged t) c.if-have-lt4096.false (c.in_ok-head.ensures.header told) in
-    let wanted : file_size c.shape-shape.result.sectors c.shape-shape.result.parity ≡ file_size c.in_ok-head.head.sectors c.in_ok-head.head.parity =
-    λ i. file_size (c.shape-shape.ensures.sectors i) (c.shape-shape.ensures.parity i) in
-    let digest = digest_then _ _ c.args.name.now _ _ c.in_ok-sums.digest size same (c.if-have-want.false ∙ c.file_size-want.ensures) (c.in_ok-sums.ensures.digest still) in
-    bad_body _ _ (fields_of c.in_ok-head.head) c.in_ok-sums.digest size c.if-have-lt4096.false head
-    (c.if-have-want.false ∙ c.file_size-want.ensures ∙ wanted) digest (differs _ _ c.ne.ensures c.if-ne.true)
-
 pub returns-clause-answer : goal.returns-clause-answer
 returns-clause-answer g c = λ t.
     let size = sym c.in-Some.is ∙ c.in_ok-have.ensures.size t in
@@ -50,6 +37,5 @@ returns-clause-answer g c = λ t.
     let wanted : file_size c.shape-shape.result.sectors c.shape-shape.result.parity ≡ file_size c.in_ok-head.head.sectors c.in_ok-head.head.parity =
     λ i. file_size (c.shape-shape.ensures.sectors i) (c.shape-shape.ensures.parity i) in
     let right = c.if-have-want.false ∙ c.file_size-want.ensures in
-    body_agrees _ _ (record { head = c.in_ok-head.head; sums = c.in_ok-sums.sums; recorded = c.in_ok-sums.ensures.len ∙ c.shape-shape.ensures.sectors }) c.in_ok-sums.digest size c.if-have-lt4096.false head
-    (right ∙ wanted) (digest_then _ _ c.args.name.now _ _ c.in_ok-sums.digest size same right (c.in_ok-sums.ensures.digest still)) (agrees _ _ c.ne.ensures c.if-ne.false)
-    (sums_then _ _ c.args.name.now _ _ _ c.shape-shape.result.sectors _ size same right c.shape-shape.ensures.sectors (c.in_ok-sums.ensures.sums still))
+    judged_so _ _ c.in_ok-head.head c.in_ok-body.body c.judge_body.result c.judge_body.ensures.judged size c.if-have-lt4096.false head (right ∙ wanted)
+    (body_then _ _ c.args.name.now _ _ c.in_ok-body.body c.shape-shape.result.sectors _ size same right c.shape-shape.ensures.sectors (c.in_ok-body.ensures.body still))

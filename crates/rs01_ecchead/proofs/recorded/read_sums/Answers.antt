@@ -1,4 +1,4 @@
-use Rattle.std.proofs.Common.{rules, ◌≡◌, ◌∙◌, ◌+◌, ◌-◌, ◌*◌, ◌/◌, ◌%◌, ◌≤◌, ◌++◌, [], ap, sym, refl, subst, List, length, map, arith, ℕ, min, append-nil, length-take, length-append}
+use Rattle.std.proofs.Common.{rules, ◌≡◌, ◌∙◌, ◌+◌, ◌-◌, ◌*◌, ◌/◌, ◌%◌, ◌≤◌, ◌++◌, [], ap, sym, refl, subst, List, length, map, arith, ℕ, min, append-nil, length-take, length-drop, length-append}
 use Rattle.std.specs.Prelude.{IsTrue}
 use Rattle.std.specs.List.{range_with_len}
 use Rattle.std.proofs.lemmas.List.FromFn.{length-map-range_with_len}
@@ -9,7 +9,7 @@ use Rattle.rs01_ecchead.specs.Recorded.{sums_in}
 use Rattle.rs01_ecchead.proofs.Parts.{one_more_part, piece_then}
 use Rattle.rs01_lists.specs.Bytes.{part}
 use Rattle.rs01_ecchead.proofs.RecordedSums.{sums_more}
-use Rattle.rs01_ecchead.proofs.recorded.add_sums.Goals as goal
+use Rattle.rs01_ecchead.proofs.recorded.read_sums.Goals as goal
 
 none_yet : (file xs : List ℕ) → xs ≡ [] → xs ≡ sums_in file 0
 unfolding sums_in
@@ -38,10 +38,11 @@ loop-at-init g c = record {
   low = omega arith;
   high = omega arith;
   fours = refl;
-  counted = ap length c.requires.empty;
-  room = c.requires.room;
-  held = λ t fits m h. subst (Holds c.args.hasher.now) (sym (append-nil m)) h;
-  list = λ t fits. none_yet _ _ c.requires.empty;
+  counted = ap length c.in_ok-sums.ensures.empty;
+  room = c.in_ok-sums.ensures.room;
+  wide = c.in_ok-buffer.ensures.len;
+  fed = λ t fits m h. subst (Holds c.args.hasher.now) (sym (append-nil m)) h;
+  list = λ t fits. none_yet _ _ c.in_ok-sums.ensures.empty;
 }
 
 -- a piece holds whole checksums
@@ -62,7 +63,7 @@ loop-at-preserved g c =
     let len = c.piece_len-len.result in
     let file = bytes_of (g.D.Desk.state c.args.desk.now).files c.args.name.now in
     let whole : len % 4 ≡ 0 =
-    whole_sums at (4096 + 4 * c.args.count) (length c.args.buffer.now) len c.args.count refl c.loop-at.invariant.low (omega arith) c.loop-at.invariant.fours c.requires.fours (omega arith) in
+    whole_sums at (4096 + 4 * c.args.count) (65536) len c.args.count refl c.loop-at.invariant.low (omega arith) c.loop-at.invariant.fours refl (omega arith) in
     let long : length c.add_piece.new.into ≡ len = c.add_piece.auto.into ∙ simp (length-take) (omega arith) in
     let read = λ (t : IsTrue (g.D.Desk.state c.args.desk.now).tells) (fits : 4096 + 4 * c.args.count ≤ length file).
     piece_then (g.D.Desk.state c.args.desk.now).files _ c.args.name.now c.add_piece.new.into at len (c.loop-at.invariant.reads.unchanged t) long
@@ -74,10 +75,11 @@ loop-at-preserved g c =
       fours = omega arith;
       counted = counted_more _ _ _ at len _ c.loop-at.invariant.low c.loop-at.invariant.fours whole long c.loop-at.invariant.counted c.push_sums.ensures.list;
       room = c.push_sums.ensures.room ∙ c.loop-at.invariant.room;
-      held = λ t fits m h.
+      wide = omega (arith, c.add_piece.auto.into, length-append {A = ℕ}, length-take {A = ℕ}, length-drop {A = ℕ}, c.loop-at.invariant.wide);
+      fed = λ t fits m h.
           let room : 4096 + 4 * c.args.count ≤ length file = omega arith in
           subst (Holds c.add_piece.new.hasher) (one_more_part file m c.add_piece.new.into 4096 at len c.loop-at.invariant.low (read t room))
-          (c.in_ok-add_piece.ensures.held _ (c.loop-at.invariant.held t fits m h));
+          (c.in_ok-add_piece.ensures.held _ (c.loop-at.invariant.fed t fits m h));
       list = λ t fits.
           let room : 4096 + 4 * c.args.count ≤ length file = omega arith in
           grown file _ _ c.add_piece.new.into at len c.loop-at.invariant.low c.loop-at.invariant.fours whole (read t room) long (c.loop-at.invariant.list t fits) c.push_sums.ensures.list;
