@@ -2,11 +2,10 @@
 use Rattle.std.proofs.Common.{◌≡◌, ℕ, zero, suc, ◌+◌, ◌-◌, ◌<◌, List, [], ◌∷◌, length, get_or, sym, ap, ◌∙◌, subst, arith, Bool, true, false, refl, cond, ⊎_elim}
 use Rattle.std.specs.Prelude.{find, Option, Some, None, nat_lt, not, ◌==◌, ◌&&◌}
 use Rattle.std.specs.Option.{option_map_or}
-use Rattle.std.proofs.lemmas.Bool.{cases_Bool, cases_eq, cases_lt, false≢true, le-ltb}
+use Rattle.std.proofs.lemmas.Bool.{cases_eq, cases_lt, false≢true, le-ltb}
 use Rattle.std.proofs.lemmas.List.{get_or_past}
 use Rattle.std.proofs.lemmas.List.FromFn.{get_or-map-range_with_len}
 use Rattle.rs01_layers.specs.declared.lists.Placed.{Placed}
-use Rattle.rs01_layers.specs.declared.task.LayerOut.{LayerOut}
 use Rattle.rs01_layers.specs.declared.task.LayerOut.TheVariants.{Restored, Beyond, Inconsistent, BadSum}
 use Rattle.rs01_sums.specs.Crc.{crc}
 use Rattle.rs01_erase.specs.LayerValue.{correct_of, erased_places, first_bad_sum, first_inconsistent, placed, restored_block}

@@ -1,6 +1,6 @@
 -- How many sectors of a layer are erased, counted over all sectors and over the places of the layer.
-use Rattle.std.proofs.Common.{◌≡◌, ℕ, zero, suc, ◌+◌, ◌-◌, ◌*◌, ◌<◌, ◌≤◌, List, length, map, get_or, refl, sym, ap, ◌∙◌, arith, Bool, true, false, cond}
-use Rattle.std.specs.Prelude.{◌%◌, ◌==◌, ◌&&◌, count_by, nat_lt}
+use Rattle.std.proofs.Common.{◌≡◌, ℕ, zero, suc, ◌+◌, ◌-◌, ◌*◌, ◌<◌, ◌≤◌, ◌∷◌, length, map, get_or, refl, sym, ap, ◌∙◌, arith, Bool, true, false, cond}
+use Rattle.std.specs.Prelude.{◌%◌, ◌==◌, ◌&&◌, count_by, filter, nat_lt}
 use Rattle.std.specs.List.{range_with_len}
 use Rattle.std.proofs.lemmas.Bool.{lt-ltb, le-ltb, eq-eqb, ne_eqb, false≢true}
 use Rattle.std.proofs.lemmas.List.FromFn.{get_or-map-range_with_len}
@@ -20,15 +20,19 @@ count_first : (f : ℕ → Bool) (a n : ℕ) → count_by f (range_with_len a (s
 count_first f a n =
     sum_by-cons (λ x. cond (f x) 1 0) a (range_with_len (a + 1) n)
 
--- two tests that agree on neighbouring numbers count the same
-count_same : (f g : ℕ → Bool) (a n : ℕ) → ((j : ℕ) → j < n → f (a + j) ≡ g (a + j)) → count_by f (range_with_len a n) ≡ count_by g (range_with_len a n)
-count_same f g a zero same = refl
-count_same f g a (suc n) same =
+-- two tests that agree on neighbouring numbers keep the same ones, and count the same
+pub same_kept : (f g : ℕ → Bool) (a n : ℕ) → ((j : ℕ) → j < n → f (a + j) ≡ g (a + j)) → filter f (range_with_len a n) ≡ filter g (range_with_len a n)
+same_kept f g a zero same = refl
+same_kept f g a (suc n) same =
     let here : f a ≡ g a = ap f (let e : a ≡ a + 0 = omega arith in e) ∙ same 0 (omega arith) ∙ ap g (let e : a + 0 ≡ a = omega arith in e) in
-    let rest = count_same f g (a + 1) n (λ j l.
+    let rest = same_kept f g (a + 1) n (λ j l.
     let place : a + 1 + j ≡ a + suc j = omega arith in
     ap f place ∙ same (suc j) (omega arith) ∙ ap g (sym place)) in
-    count_first f a n ∙ (λ i. cond (here i) 1 0 + rest i) ∙ sym (count_first g a n)
+    λ i. cond (here i) (a ∷ rest i) (rest i)
+
+count_same : (f g : ℕ → Bool) (a n : ℕ) → ((j : ℕ) → j < n → f (a + j) ≡ g (a + j)) → count_by f (range_with_len a n) ≡ count_by g (range_with_len a n)
+count_same f g a n same =
+    sym (length-filter f (range_with_len a n)) ∙ ap length (same_kept f g a n same) ∙ length-filter g (range_with_len a n)
 
 -- nothing is counted where no number passes
 count_none : (f : ℕ → Bool) (a n : ℕ) → ((j : ℕ) → j < n → f (a + j) ≡ false) → count_by f (range_with_len a n) ≡ 0

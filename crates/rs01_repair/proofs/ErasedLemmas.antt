@@ -1,14 +1,9 @@
 -- Which sectors are erased, by what the code tests.
-use Rattle.std.proofs.Common.{◌≡◌, ℕ, ◌+◌, ◌*◌, ◌≤◌, List, length, refl, sym, ap, ◌∙◌, Bool, true, false}
-use Rattle.std.specs.Prelude.{not, ◌&&◌, ◌||◌, Some, nat_lt}
-use Rattle.std.specs.Str.{bytes_eq}
-use Rattle.std.specs.Bool.{Decides}
+use Rattle.std.proofs.Common.{◌≡◌, ℕ, ◌+◌, ◌*◌, ◌≤◌, List, length, sym, ap, ◌∙◌, Bool, true, false}
+use Rattle.std.specs.Prelude.{not, ◌||◌, nat_lt}
 use Rattle.std.proofs.lemmas.Bool.{le-ltb}
-use Rattle.std.proofs.lemmas.Bool.Decides.{same_from_decides}
-use Rattle.std.proofs.lemmas.Slice.Eq.{bytes_eq-Decides}
 use Rattle.rs01_layers.specs.Sectors.{length_of}
-use Rattle.rs01_sums.specs.Marker.{marker}
-use Rattle.rs01_sums.specs.Usable.{has_sum, is_usable}
+use Rattle.rs01_sums.specs.Usable.{is_usable}
 use Rattle.rs01_ecchead.specs.Erased.{Known, block_in, is_absent, is_erased}
 
 -- a file that reaches to the end of a sector

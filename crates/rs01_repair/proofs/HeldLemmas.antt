@@ -1,15 +1,14 @@
 -- What holds of an image that is held.
-use Rattle.std.proofs.Common.{◌≡◌, ◌<◌, ◌≤◌, ◌+◌, ◌-◌, ◌*◌, ℕ, ◌++◌, append_assoc, take, drop, replicate, subst, get_or, List, [], length, refl, sym, ap, ◌∙◌, arith, cond, ⊎_elim, Bool, true, false}
-use Rattle.std.specs.Prelude.{Some, ◌||◌, not, nat_lt}
-use Rattle.std.proofs.lemmas.Bool.{cases_Bool, cases_lt, cond-false, cond-true, false≢true, lt-ltb}
+use Rattle.std.proofs.Common.{◌≡◌, ◌≤◌, ◌+◌, ◌-◌, ◌*◌, ℕ, subst, get_or, List, [], length, refl, sym, ap, ◌∙◌, arith, cond, ⊎_elim, Bool, true, false}
+use Rattle.std.specs.Prelude.{◌||◌, not}
+use Rattle.std.proofs.lemmas.Bool.{cases_lt, cond-false, cond-true, false≢true, lt-ltb}
 use Rattle.rs01_layers.specs.Sectors.{block, length_of}
 use Rattle.rs01_layers.specs.Layout.{IsShape}
 use Rattle.rs01_layers.proofs.BlockLemmas.{length-block}
-use Rattle.std.proofs.lemmas.List.{drop-replicate, length-replicate, take_all}
-use Rattle.rs01_lists.specs.Bytes.{padded, part, zeros}
+use Rattle.rs01_lists.specs.Bytes.{padded, part}
 use Rattle.rs01_lists.proofs.Padding.{length-padded}
 use Rattle.rs01_sums.specs.Usable.{is_usable}
-use Rattle.rs01_ecchead.specs.Erased.{Known, block_in, is_absent, is_erased, known_of}
+use Rattle.rs01_ecchead.specs.Erased.{Known, block_in, is_absent, is_erased}
 use Rattle.rs01_ecchead.specs.declared.opened.Ecc.{Ecc}
 use Rattle.rs01_repair.specs.Holding.{block_held, fields_in, is_gone_in, kept_in, said}
 use Rattle.rs01_repair.specs.declared.held.Held.{Held}
@@ -91,14 +90,3 @@ input_is held recorded l input count data_ erased sums parity =
       sums = λ p e. ap (λ xs. get_or xs p 0) sums;
       parity = parity;
     }
-
-rest_of_zeros : (n k : ℕ) → take (n - k) (drop k (replicate n 0)) ≡ zeros (n - k)
-unfolding zeros
-rest_of_zeros n k = ap (take (n - k)) (drop-replicate k n 0) ∙ take_all (n - k) (replicate (n - k) 0) (omega (arith, length-replicate {A = ℕ} (n - k) 0))
-
--- bytes and then zeros, put behind what is there
-pub pushed : (n : ℕ) (out more all bytes block : List ℕ) → more ≡ out ++ bytes → all ≡ more ++ take (n - length bytes) (drop (length bytes) (replicate n 0))
-    → padded n bytes ≡ block → all ≡ out ++ block
-unfolding padded
-pushed n out more all bytes block first then is =
-    then ∙ (λ i. first i ++ rest_of_zeros n (length bytes) i) ∙ append_assoc out bytes (zeros (n - length bytes)) ∙ ap (λ xs. out ++ xs) is

@@ -1,26 +1,22 @@
 -- What correcting is given of a layer, by what the code puts together.
-use Rattle.std.proofs.Common.{◌≡◌, ℕ, ◌+◌, ◌-◌, ◌*◌, ◌<◌, ◌≤◌, List, [], length, take, drop, map, get_or, replicate, refl, sym, ap, ◌∙◌, arith, Bool, true, false, cond, ltb, eqb, ⊎_elim}
+use Rattle.std.proofs.Common.{◌≡◌, ℕ, ◌+◌, ◌-◌, ◌*◌, ◌<◌, ◌≤◌, List, [], length, take, drop, map, get_or, refl, sym, ap, ◌∙◌, arith, Bool, true, false, cond, ltb, eqb, ⊎_elim}
 use Rattle.std.specs.Prelude.{Some, None, ◌||◌, ◌&&◌, nat_lt, nat_eq, IsTrue}
 use Rattle.std.specs.List.{flat_map, range_with_len}
 use Rattle.std.proofs.lemmas.Bool.{false≢true, lt-ltb, le-ltb, cond-true, cond-false, cases_lt, cases_eq, eq-eqb, ne_eqb}
-use Rattle.std.proofs.lemmas.List.{get_or_past, get_or-take, get_or-drop, length-take, length-drop, length-map}
+use Rattle.std.proofs.lemmas.List.{get_or_past, length-map}
 use Rattle.std.proofs.lemmas.List.FromFn.{get_or-map-range_with_len, length-range_with_len}
-use Rattle.std.proofs.lemmas.Grind.{same_number_lists}
 use Rattle.rs01_layers.specs.Sectors.{length_of}
 use Rattle.rs01_layers.specs.Layout.{IsShape, layer_of, number_at, place_of, sector_at}
 use Rattle.rs01_layers.proofs.PlaceLemmas.{each_sector_has_a_place, place_determines_sector}
 use Rattle.rs01_layers.specs.Blocks.{blocks_of, is_parity_len}
-use Rattle.rs01_layers.proofs.BlockLemmas.{length-block}
 use Rattle.rs01_ecchead.specs.Header.{Fields}
-use Rattle.rs01_ecchead.specs.Opened.{Opened}
 use Rattle.rs01_lists.specs.Bytes.{padded}
 use Rattle.rs01_lists.proofs.Padding.{length-padded}
 use Rattle.rs01_lists.proofs.Flats.{flat_at}
-use Rattle.rs01_repair.specs.Inputs.{IsInput, InputsAreAnswered, answer_of, block_at, blocks_at, flag_at, flags_at, parity_at, place_number, sum_at, sums_at}
+use Rattle.rs01_repair.specs.Inputs.{InputsAreAnswered, answer_of, block_at, blocks_at, flag_at, flags_at, parity_at, place_number, sum_at, sums_at}
 use Rattle.rs01_erase.specs.Correcting.{AgreeWhereHeld, blocks_in, correct}
 use Rattle.rs01_erase.specs.LayerValue.{correct_of}
 use Rattle.rs01_erase.proofs.LayerValueLemmas.{correct_of-same}
-use Rattle.rs01_layers.specs.declared.input.LayerInput.{LayerInput}
 use Rattle.rs01_erase.proofs.Found.{map_same}
 use Rattle.rs01_erase.proofs.ErasedPlaces.{number_in_range}
 

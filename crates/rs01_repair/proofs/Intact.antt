@@ -1,11 +1,10 @@
 -- What correcting gives of the layers of an image whose error correction file is intact.
-use Rattle.std.proofs.Common.{◌≡◌, ℕ, ◌+◌, ◌-◌, ◌*◌, ◌^◌, ◌<◌, ◌≤◌, List, [], length, take, drop, get_or, refl, sym, ap, subst, ◌∙◌, arith, Bool, true, false, ltb, ⊎_elim}
+use Rattle.std.proofs.Common.{◌≡◌, ℕ, ◌+◌, ◌-◌, ◌*◌, ◌^◌, ◌<◌, ◌≤◌, List, [], length, take, drop, get_or, sym, ap, subst, ◌∙◌, arith, Bool, true, false, ltb, ⊎_elim}
 use Rattle.std.specs.Prelude.{All, ◌&&◌, Ok, IsOkAnd, Result}
 use Rattle.std.proofs.lemmas.Bool.{cases_lt, false≢true, le-ltb, lt-ltb, cond-true, cond-false}
 use Rattle.std.proofs.lemmas.List.{get_or_past}
 use Rattle.std.proofs.lemmas.List.Elements.{All-from_get_or, All-get_or}
 use Rattle.std.proofs.lemmas.List.FromFn.{get_or-map-range_with_len}
-use Rattle.std.specs.List.{range_with_len}
 use Rattle.rs01_layers.specs.Sectors.{last_of, sector, sectors_of}
 use Rattle.rs01_layers.specs.Layout.{IsShape, layers_of, number_at}
 use Rattle.rs01_layers.specs.Layer.{column, layer}

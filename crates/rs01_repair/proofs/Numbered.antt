@@ -1,11 +1,10 @@
 -- Lists made from the numbers 0, 1, 2 and so on, one more at a time.
-use Rattle.std.proofs.Common.{◌≡◌, ℕ, zero, suc, ◌+◌, ◌-◌, ◌*◌, ◌<◌, List, [], ◌∷◌, ◌++◌, map, length, get_or, sym, ap, ◌∙◌, arith, add-one, ⊎_elim, cond}
+use Rattle.std.proofs.Common.{◌≡◌, ℕ, ◌+◌, List, [], ◌∷◌, ◌++◌, map, length, sym, ap, ◌∙◌, arith, add-one, cond}
 use Rattle.std.specs.Prelude.{Bool, filter}
 use Rattle.std.proofs.lemmas.List.Elements.{filter-append}
 use Rattle.std.specs.List.{flat_map, range_with_len}
-use Rattle.std.proofs.lemmas.List.{map-append, length-append, get_or_append_left, get_or-append_right}
-use Rattle.std.proofs.lemmas.Bool.{cases_lt}
-use Rattle.rs01_lists.proofs.Flats.{flat_more, length-flat}
+use Rattle.std.proofs.lemmas.List.{map-append, length-append}
+use Rattle.rs01_lists.proofs.Flats.{flat_more}
 use Rattle.rs01_lists.proofs.Ranges.{range_with_len_more}
 
 numbers_more : (n : ℕ) → range_with_len 0 (n + 1) ≡ range_with_len 0 n ++ n ∷ []

@@ -1,8 +1,8 @@
 //! Correcting a layer of an image that is held whole.
 ghost use Rattle.std.specs.Prelude.{◌≡◌, ◌*◌, IfOk, List, length, ℕ};
-ghost use Rattle.rs01_repair.specs.Holding.{IsLayer, answer_to, fields_in, is_gone_in};
-ghost use Rattle.rs01_repair.specs.Inputs.{flags_at, parity_at};
-ghost use Rattle.rs01_repair.specs.Restored.{HasBlocks, NamesSector};
+ghost use Rattle.rs01_repair.specs.Holding.{HasBlocksOf, IsLayer, answer_to, fields_in};
+ghost use Rattle.rs01_repair.specs.Inputs.{parity_at};
+ghost use Rattle.rs01_repair.specs.Restored.{NamesSector};
 
 use crate::held::Held;
 use crate::input::layer_input;
@@ -20,8 +20,7 @@ pub fn answer_layer(
     requires parity { length parity.items ≡ 2048 * held.now.ecc.head.parity }
     ensures value { (recorded : ℕ → ℕ → List ℕ) → parity.items ≡ parity_at recorded layer
         → IfOk result (λ answer. answer ≡ answer_to held.now recorded layer) }
-    ensures blocks { IfOk result
-        (HasBlocks (flags_at (fields_in held.now) (is_gone_in held.now) layer)) }
+    ensures blocks { IfOk result (HasBlocksOf held.now layer) }
     ensures names { IfOk result (NamesSector (fields_in held.now) layer) }
 {
     let input = layer_input(alloc, held, layer, parity)?;

@@ -3,18 +3,18 @@ ghost use Rattle.std.specs.Prelude.{◌≡◌, ◌-◌, ◌*◌, ◌≤◌, ◌+
 ghost use Rattle.std.specs.List.{flat_map, range_with_len};
 ghost use Rattle.rs01_lists.specs.Bytes.{padded};
 ghost use Rattle.rs01_repair.specs.Holding.{
+  IsInputOf,
   IsLayer,
   IsPlace,
-  block_held,
   fields_in,
   is_gone_in,
-  kept_in,
-  said,
+  kept_at,
 };
-ghost use Rattle.rs01_repair.specs.Inputs.{IsInput, block_at, flag_at, parity_at, sum_at};
+ghost use Rattle.rs01_repair.specs.Inputs.{flag_at, parity_at, sum_at};
 
 use crate::held::Held;
 use rs01_layers::{Bytes, Flags, LayerInput, SumList};
+use rs01_lists::push_padded;
 use std::alloc::{AllocError, Global};
 
 // The bytes at a place: none at padding, and none of an erased sector.
@@ -22,8 +22,7 @@ fn place_bytes<'a>(held: &'a Held, layer: u32, place: u32) -> &'a [u8]
     requires layer { IsLayer held.now layer }
     requires place { IsPlace held.now place }
     ensures len { length result.now ≤ 2048 }
-    ensures bytes { padded 2048 result.now
-        ≡ block_at (fields_in held.now) (kept_in held.now) layer place }
+    ensures bytes { padded 2048 result.now ≡ kept_at held.now layer place }
 {
     match held.ecc.shape().sector_at(layer, place) {
         Some(sector) => {
@@ -40,13 +39,9 @@ fn place_bytes<'a>(held: &'a Held, layer: u32, place: u32) -> &'a [u8]
 fn push_block(held: &Held, layer: u32, place: u32, out: &mut Vec<u8>) -> Result<(), AllocError>
     requires layer { IsLayer held.now layer }
     requires place { IsPlace held.now place }
-    ensures { OnOk result (out.new.items
-        ≡ out.old.items ++ block_at (fields_in held.now) (kept_in held.now) layer place) }
+    ensures { OnOk result (out.new.items ≡ out.old.items ++ kept_at held.now layer place) }
 {
-    let zeros = [0u8; 2048];
-    let bytes = place_bytes(held, layer, place);
-    out.extend_from_slice(bytes)?;
-    out.extend_from_slice(&zeros[bytes.len()..])?;
+    push_padded(place_bytes(held, layer, place), 2048, out)?;
     Ok(())
 }
 
@@ -77,8 +72,8 @@ fn place_sum(held: &Held, layer: u32, place: u32) -> u32
 // The blocks of all places of a layer, one after the other.
 fn layer_blocks(alloc: Global, held: &Held, layer: u32) -> Result<Vec<u8>, AllocError>
     requires { IsLayer held.now layer }
-    ensures { let f = fields_in held.now in IfOk result (λ bytes. bytes.items
-        ≡ flat_map (block_at f (kept_in held.now) layer) (range_with_len 0 (255 - f.parity))) }
+    ensures { let places = range_with_len 0 (255 - held.now.ecc.head.parity) in
+        IfOk result (λ bytes. bytes.items ≡ flat_map (kept_at held.now layer) places) }
 {
     let places = held.ecc.shape().data();
     let mut bytes = Vec::with_capacity(alloc, 2048 * places as usize)?;
@@ -124,8 +119,7 @@ pub fn layer_input(
     requires layer { IsLayer held.now layer }
     requires parity { length parity.items ≡ 2048 * held.now.ecc.head.parity }
     ensures input { (recorded : ℕ → ℕ → List ℕ) → parity.items ≡ parity_at recorded layer
-        → IfOk result
-        (IsInput (said held.now recorded) (block_held held.now) (is_gone_in held.now) layer) }
+        → IfOk result (IsInputOf held.now recorded layer) }
     ensures fits { IfOk result (λ input. length input.parity ≡ 2048 * input.parity_count) }
 {
     let blocks = layer_blocks(alloc, held, layer)?;

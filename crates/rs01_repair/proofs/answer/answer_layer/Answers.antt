@@ -1,6 +1,6 @@
-use Rattle.std.proofs.Common.{◌≡◌, ◌∙◌, sym, subst}
+use Rattle.std.proofs.Common.{◌∙◌, sym, subst}
 use Rattle.rs01_layers.specs.declared.task.LayerOut.{LayerOut}
-use Rattle.rs01_repair.specs.Holding.{answer_to, block_held, fields_in, is_gone_in, said}
+use Rattle.rs01_repair.specs.Holding.{block_held, fields_in, is_gone_in, said}
 use Rattle.rs01_repair.specs.Inputs.{flags_at}
 use Rattle.rs01_repair.specs.Restored.{HasBlocks, NamesSector}
 use Rattle.rs01_repair.proofs.CorrectLemmas.{answer_has_blocks, answer_names_sector}

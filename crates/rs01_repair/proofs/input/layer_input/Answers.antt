@@ -1,8 +1,7 @@
-use Rattle.std.proofs.Common.{◌≡◌, ◌∙◌, ◌-◌, sym, ap, subst, refl, arith, length, get_or, List, Bool, ℕ}
-use Rattle.std.specs.List.{flat_map, range_with_len}
+use Rattle.std.proofs.Common.{◌∙◌, ◌-◌, ap, arith, length}
 use Rattle.rs01_lists.proofs.Flats.{length-flat}
-use Rattle.rs01_repair.specs.Holding.{block_held, fields_in, is_gone_in, kept_in, said}
-use Rattle.rs01_repair.specs.Inputs.{block_at, flag_at, flags_at, sum_at, sums_at}
+use Rattle.rs01_repair.specs.Holding.{fields_in, is_gone_in, kept_in}
+use Rattle.rs01_repair.specs.Inputs.{block_at}
 use Rattle.rs01_repair.proofs.HeldLemmas.{input_is, length-kept}
 use Rattle.rs01_repair.proofs.InputLemmas.{flags_are, length-block_at, length-flags_at, length-sums_at, parity_given, sums_are}
 use Rattle.rs01_repair.proofs.input.layer_input.Goals as goal

@@ -1,6 +1,5 @@
-use Rattle.std.proofs.Common.{◌∙◌, ap, sym, refl}
+use Rattle.std.proofs.Common.{◌∙◌, sym, refl}
 use Rattle.rs01_layers.specs.Layout.{sector_at}
-use Rattle.rs01_lists.specs.Bytes.{padded}
 use Rattle.rs01_repair.specs.Holding.{fields_in, kept_in}
 use Rattle.rs01_repair.proofs.HeldLemmas.{kept-gone, kept-there}
 use Rattle.rs01_repair.proofs.InputLemmas.{block_at-padding, block_at-sector}
