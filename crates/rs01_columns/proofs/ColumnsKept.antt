@@ -2,7 +2,7 @@
 use Rattle.std.proofs.Common.{◌≡◌, ℕ, ◌+◌, ◌*◌, ◌<◌, ◌≤◌, List, arith, ⊎_elim}
 use Rattle.std.proofs.lemmas.Bool.{cases_lt}
 use Rattle.rs01_columns.specs.Bank.{lane}
-use Rattle.rs01_columns.specs.Fours.{SameBefore, SameBetween, SameFrom}
+use Rattle.rs01_columns.specs.Ranges.{SameBefore, SameBetween, SameFrom}
 
 -- where one is written
 pub kept : (old new : List ℕ) (a l j : ℕ) → l < 1024 → (j ≡ a → ⊥) → SameBefore old new (1088 * a) → SameFrom old new (1088 * a + 1024) → lane new l j ≡ lane old l j

@@ -1,9 +1,12 @@
 -- Sixteen more bytes of a column have taken four products.
-use Rattle.std.proofs.Common.{◌≡◌, ℕ, ◌+◌, ◌-◌, ◌*◌, ◌<◌, ◌≤◌, List, get_or, arith, ◌∙◌, sym, ⊎_elim}
+use Rattle.std.proofs.Common.{◌≡◌, ℕ, ◌+◌, ◌-◌, ◌*◌, ◌<◌, ◌≤◌, List, get_or, arith, length, subst, ◌∙◌, sym, ⊎_elim}
 use Rattle.std.proofs.lemmas.Bool.{cases_lt}
-use Rattle.rs01_columns.specs.Fours.{AreApart, AreRaised, IsApart, SameBefore, SameBetween, SameFrom, raised_by}
+use Rattle.rs01_columns.specs.Fours.{AreApart, AreBothRaised, AreRaised, BothTakeFour, IsApart, OnlyInBoth, both_on, places_on, raised_by}
+use Rattle.rs01_columns.specs.Ranges.{SameBefore, SameBetween, SameFrom}
 use Rattle.rs01_columns.specs.declared.adding.FourPlaces.{FourPlaces}
 use Rattle.rs01_columns.specs.declared.adding.FourFactors.{FourFactors}
+use Rattle.rs01_columns.specs.declared.adding.TwoPlaces.{TwoPlaces}
+use Rattle.rs01_columns.specs.declared.adding.EightFactors.{EightFactors}
 
 -- the bytes of a column are as at first
 abbrev pub Kept : List ℕ → List ℕ → ℕ → Type 0
@@ -17,7 +20,7 @@ pub record AllKept (first now : List ℕ) (p : FourPlaces) : Type 0 where
   pub four : Kept first now p.four
 
 pub more : (t : FourFactors) (first now next : List ℕ) (p q : FourPlaces) (into i : ℕ) → i < 64
-    → q ≡ record { one = p.one + 16 * i; two = p.two + 16 * i; three = p.three + 16 * i; four = p.four + 16 * i }
+    → q ≡ places_on p (16 * i)
     → AreRaised first now t p into (16 * i)
     → ((k : ℕ) → 16 * i ≤ k → k < 1024 → get_or now (into + k) 0 ≡ get_or first (into + k) 0)
     → AllKept first now p
@@ -71,3 +74,32 @@ all_kept_twice first now one other i p order below apart apart_too before betwee
   three = kept_twice first now one other p.three i order below apart.three apart_too.three before between after;
   four = kept_twice first now one other p.four i order below apart.four apart_too.four before between after;
 }
+
+-- sixteen more bytes of two columns have taken four products each
+pub both_more : (t : EightFactors) (first now next : List ℕ) (p q : FourPlaces) (into on : TwoPlaces) (i : ℕ) → i < 64 → BothTakeFour (length first) into p
+    → q ≡ places_on p (16 * i) → on ≡ both_on into (16 * i)
+    → AreBothRaised first now t p into (16 * i) → OnlyInBoth first now into (16 * i)
+    → AreBothRaised now next t q on 16 → OnlyInBoth now next on 16
+    → AreBothRaised first next t p into (16 * (i + 1))
+both_more t first now next p q into on i below fit at at_both done kept here rest =
+    let order : into.first + 1024 ≤ into.second = fit.room.order in
+    let there : AreBothRaised now next t q (both_on into (16 * i)) 16 = subst (λ o. AreBothRaised now next t q o 16) at_both here in
+    let only : OnlyInBoth now next (both_on into (16 * i)) 16 = subst (λ o. OnlyInBoth now next o 16) at_both rest in
+    let all : AllKept first now p = all_kept_twice first now into.first into.second i p order below fit.apart fit.apart_too kept.before kept.between kept.after in
+    record {
+      first = more t.low first now next p q into.first i below at done.first (λ k g h. kept.between (into.first + k) (omega arith) (omega (arith, order))) all
+          there.first (λ k h. only.before (into.first + k) (omega arith));
+      second = more t.high first now next p q into.second i below at done.second (λ k g h. kept.after (into.second + k) (omega arith)) all
+          there.second (λ k h. only.between (into.second + k) (omega (arith, order, below)) (omega arith));
+    }
+
+-- and nothing else has changed
+pub both_rest : (first now next : List ℕ) (into on : TwoPlaces) (i : ℕ) → i < 64 → into.first + 1024 ≤ into.second → on ≡ both_on into (16 * i)
+    → OnlyInBoth first now into (16 * i) → OnlyInBoth now next on 16 → OnlyInBoth first next into (16 * (i + 1))
+both_rest first now next into on i below order at kept rest =
+    let only : OnlyInBoth now next (both_on into (16 * i)) 16 = subst (λ o. OnlyInBoth now next o 16) at rest in
+    record {
+      before = λ k h. only.before k (omega arith) ∙ kept.before k h;
+      between = λ k g h. only.between k (omega arith) (omega arith) ∙ kept.between k (omega arith) h;
+      after = λ k h. only.after k (omega arith) ∙ kept.after k (omega arith);
+    }

@@ -1,6 +1,6 @@
 -- A bank: columns of 1024 bytes, each 1088 bytes behind the one before. Lane l holds byte l of each column.
-use Rattle.std.specs.Prelude.{◌≡◌, ◌≢◌, false, ℕ, ◌+◌, ◌*◌, ◌^◌, ◌<◌, List, slice_index}
-use Rattle.rs01_columns.specs.Program.{stepped}
+use Rattle.std.specs.Prelude.{◌≡◌, ◌≢◌, false, ℕ, Some, ◌+◌, ◌-◌, ◌*◌, ◌^◌, ◌<◌, ◌≤◌, List, drop, length, slice_get, slice_index}
+use Rattle.rs01_columns.specs.Program.{meaning, stepped}
 use Rattle.rs01_columns.specs.declared.program.Step.{Step}
 use Rattle.rs01_columns.specs.declared.program.FourSteps.{FourSteps}
 
@@ -8,9 +8,49 @@ use Rattle.rs01_columns.specs.declared.program.FourSteps.{FourSteps}
 abbrev pub lane : List ℕ → ℕ → ℕ → ℕ
 lane bank l j = slice_index bank (1088 * j + l)
 
+-- lane l of a bank with the columns of a word, and in it so many of these from the kth on
+pub record IsInBank (bank : List ℕ) (l k count : ℕ) : Type 0 where
+  pub lane : l < 1024
+  pub columns : k + count ≤ 255
+  pub room : 1088 * 255 ≤ length bank
+
+-- from the kth column on lane l holds these bytes
+abbrev pub LaneHolds : List ℕ → ℕ → ℕ → List ℕ → Type 0
+LaneHolds bank l k bytes = (j : ℕ) → j < length bytes → lane bank l (k + j) ≡ slice_index bytes j
+
+-- from the kth column on lane l holds the bytes from `at` on
+abbrev pub LaneHoldsFrom : List ℕ → ℕ → ℕ → List ℕ → ℕ → ℕ → Type 0
+LaneHoldsFrom bank l k bytes at count = (j : ℕ) → j < count → lane bank l (k + j) ≡ slice_index bytes (at + j)
+
+-- the lanes hold the parity of 1024 codewords, of which there are r bytes each from the first one's on
+abbrev pub LanesHoldParity : List ℕ → ℕ → ℕ → List ℕ → Type 0
+LanesHoldParity bank r first parity =
+    (l j : ℕ) → l < 1024 → j < r → lane bank l (255 - r + j) ≡ slice_index parity ((first + l) * r + j)
+
+-- in all lanes only the columns from k to m may have changed
+pub record OnlyColumns (old new : List ℕ) (k m : ℕ) : Type 0 where
+  pub front : (l j : ℕ) → l < 1024 → j < k → lane new l j ≡ lane old l j
+  pub behind : (l j : ℕ) → l < 1024 → m ≤ j → lane new l j ≡ lane old l j
+
+-- and only in lane l
+pub record OnlyInLane (old new : List ℕ) (l k m : ℕ) : Type 0 where
+  pub columns : OnlyColumns old new k m
+  pub others : (i j : ℕ) → i < 1024 → i ≢ l → lane new i j ≡ lane old i j
+
 -- in each lane the new byte of each column is what f makes of the old ones
 abbrev pub Becomes : List ℕ → List ℕ → ((ℕ → ℕ) → ℕ → ℕ) → Type 0
 Becomes old new f = (l : ℕ) → l < 1024 → (j : ℕ) → lane new l j ≡ f (lane old l) j
+
+-- the bytes of a bank of so many columns
+abbrev pub IsBank : ℕ → List ℕ → Type 0
+IsBank columns bank = length bank ≡ 1088 * columns
+
+-- a number of parity bytes that the code allows, and a number of columns with room for the values at as many roots
+pub record HasBounds (r columns : ℕ) : Type 0 where
+  pub least : 8 ≤ r
+  pub most : r ≤ 100
+  pub room : 255 + r ≤ columns
+  pub fits : columns ≤ 65536
 
 -- a step between two different ones of the first n columns
 pub record IsWithin (n : ℕ) (s : Step) : Type 0 where
@@ -25,6 +65,13 @@ pub record AreWithin (n : ℕ) (f : FourSteps) : Type 0 where
   pub two : IsWithin n f.two
   pub three : IsWithin n f.three
   pub four : IsWithin n f.four
+
+-- the four from this place on
+pub record AreAt (steps : List Step) (place : ℕ) (f : FourSteps) : Type 0 where
+  pub one : slice_get steps place ≡ Some f.one
+  pub two : slice_get steps (place + 1) ≡ Some f.two
+  pub three : slice_get steps (place + 2) ≡ Some f.three
+  pub four : slice_get steps (place + 3) ≡ Some f.four
 
 -- the bytes after four steps
 abbrev pub stepped_four : FourSteps → (ℕ → ℕ) → ℕ → ℕ
@@ -47,3 +94,15 @@ pub record TakeAlike (f g : FourSteps) : Type 0 where
   pub three : g.three.from ≡ f.three.from
   pub four : g.four.from ≡ f.four.from
   pub behind : f.one.into < g.one.into
+
+-- two fours that can be added to their columns at once
+pub record ArePaired (f g : FourSteps) : Type 0 where
+  pub first : AddTogether f
+  pub second : AddTogether g
+  pub alike : TakeAlike f g
+
+-- the steps from `place` to `next` are run: what is left makes of the new bank what was left made of the old one
+pub record Advances (steps : List Step) (place next : ℕ) (old new : List ℕ) : Type 0 where
+  pub on : place < next
+  pub most : next ≤ length steps
+  pub same : (l : ℕ) → l < 1024 → (j : ℕ) → meaning (drop next steps) (lane new l) j ≡ meaning (drop place steps) (lane old l) j

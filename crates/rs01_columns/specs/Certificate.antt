@@ -1,7 +1,8 @@
 -- What a column program gives of a word, and that the unit words tell it.
-use Rattle.std.specs.Prelude.{◌≡◌, ℕ, ◌+◌, ◌-◌, ◌<◌, ◌^◌, List, ◌∷◌, ◌++◌, All, length, replicate, slice_index}
+use Rattle.std.specs.Prelude.{◌≡◌, ℕ, ◌+◌, ◌-◌, ◌<◌, ◌≤◌, ◌^◌, List, ◌∷◌, ◌++◌, All, length, replicate, slice_index}
 use Rattle.rs01_poly.specs.Code.{encode, root}
 use Rattle.rs01_poly.specs.Polynomial.{value_at}
+use Rattle.rs01_columns.specs.Bank.{lane}
 use Rattle.rs01_columns.specs.Program.{meaning}
 use Rattle.rs01_columns.specs.declared.program.Step.{Step}
 
@@ -25,6 +26,22 @@ Leaves p n at m f = (d : List ℕ) → length d ≡ n → All (λ b. b < 2 ^ 8) 
 abbrev pub UnitsLeave : List Step → ℕ → ℕ → ℕ → (List ℕ → ℕ → ℕ) → Type 0
 UnitsLeave p n at m f = (i : ℕ) → i < n → LeavesFor p at m f (unit_word n i)
 
+-- each lane holds the columns before the program of a word
+abbrev pub LanesHold : List ℕ → (ℕ → List ℕ) → Type 0
+LanesHold bank word = (l : ℕ) → l < 1024 → (j : ℕ) → lane bank l j ≡ start (word l) j
+
+-- the lane of a unit word of n bytes holds f of it in the m columns from `at` on
+abbrev pub UnitLaneHolds : List ℕ → ℕ → ℕ → ℕ → (List ℕ → ℕ → ℕ) → ℕ → Type 0
+UnitLaneHolds bank n at m f i = (j : ℕ) → j < m → lane bank i (at + j) ≡ f (unit_word n i) j
+
+-- so do those of all unit words
+abbrev pub UnitLanesHold : List ℕ → ℕ → ℕ → ℕ → (List ℕ → ℕ → ℕ) → Type 0
+UnitLanesHold bank n at m f = (i : ℕ) → i < n → UnitLaneHolds bank n at m f i
+
+-- each of the first n lanes holds what the program makes of the columns of a unit word of n bytes
+abbrev pub HoldUnitsAfter : List ℕ → ℕ → List Step → Type 0
+HoldUnitsAfter bank n p = (i : ℕ) → i < n → (j : ℕ) → lane bank i j ≡ meaning p (start (unit_word n i)) j
+
 -- the bytes of the parity
 abbrev pub parity_bytes : List ℕ → ℕ → ℕ
 parity_bytes d j = slice_index (encode d) j
@@ -40,3 +57,9 @@ Encodes p r = Leaves p (255 - r) (255 - r) r parity_bytes
 -- words of 255 bytes leave their values at the first r roots behind them
 abbrev pub Evaluates : List Step → ℕ → Type 0
 Evaluates p r = Leaves p 255 255 r root_values
+
+-- room for the data and for the parity of a codeword
+pub record AreBuffers (r : ℕ) (d p : List ℕ) : Type 0 where
+  pub few : r ≤ 100
+  pub whole : length d ≡ 255 - r
+  pub parity : length p ≡ r

@@ -1,13 +1,43 @@
--- Four products that are added together.
+-- Four products that are added together, to one column or to two.
 use Rattle.std.specs.Prelude.{◌≡◌, ℕ, ◌+◌, ◌<◌, ◌≤◌, ◌⊎◌, List, bit_xor, slice_index}
 use Rattle.rs01_gf256.specs.Field.{times}
+use Rattle.rs01_columns.specs.Ranges.{SameBetween}
+pub use Rattle.rs01_columns.specs.Ranges.{SameBefore, SameFrom}
 use Rattle.rs01_columns.specs.declared.adding.FourPlaces.{FourPlaces}
 use Rattle.rs01_columns.specs.declared.adding.FourFactors.{FourFactors}
+use Rattle.rs01_columns.specs.Lanes.{HasLanes}
+use Rattle.rs01_columns.specs.declared.sixteen.FourSixteens.{FourSixteens}
 use Rattle.rs01_columns.specs.declared.adding.FourTables.{FourTables}
+use Rattle.rs01_columns.specs.declared.adding.TwoPlaces.{TwoPlaces}
+use Rattle.rs01_columns.specs.declared.adding.EightFactors.{EightFactors}
+use Rattle.rs01_columns.specs.declared.adding.EightTables.{EightTables}
+
+-- only so many bytes from each of two places on may have changed
+pub record OnlyInBoth (old new : List ℕ) (into : TwoPlaces) (width : ℕ) : Type 0 where
+  pub before : SameBefore old new into.first
+  pub between : SameBetween old new (into.first + width) into.second
+  pub after : SameFrom old new (into.second + width)
 
 -- what the tables are of
 abbrev pub factors_of : FourTables → FourFactors
 factors_of t = record { one = t.one.factor; two = t.two.factor; three = t.three.factor; four = t.four.factor }
+
+abbrev pub all_factors_of : EightTables → EightFactors
+all_factors_of t = record { low = factors_of t.low; high = factors_of t.high }
+
+-- the places so many bytes on
+abbrev pub places_on : FourPlaces → ℕ → FourPlaces
+places_on p on = record { one = p.one + on; two = p.two + on; three = p.three + on; four = p.four + on }
+
+abbrev pub both_on : TwoPlaces → ℕ → TwoPlaces
+both_on into on = record { first = into.first + on; second = into.second + on }
+
+-- each four lanes are the bytes from the four places on
+pub record AreAt (bank : List ℕ) (p : FourPlaces) (v : FourSixteens) : Type 0 where
+  pub one : HasLanes v.one (λ k. slice_index bank (p.one + k))
+  pub two : HasLanes v.two (λ k. slice_index bank (p.two + k))
+  pub three : HasLanes v.three (λ k. slice_index bank (p.three + k))
+  pub four : HasLanes v.four (λ k. slice_index bank (p.four + k))
 
 -- a byte, and with it the products of four others
 abbrev pub raised_by : FourFactors → ℕ → ℕ → ℕ → ℕ → ℕ → ℕ
@@ -20,12 +50,22 @@ AreRaised old new t p at width =
     (k : ℕ) → k < width → slice_index new (at + k)
     ≡ raised_by t (slice_index old (at + k)) (slice_index old (p.one + k)) (slice_index old (p.two + k)) (slice_index old (p.three + k)) (slice_index old (p.four + k))
 
+-- so it is at both of two places, each by factors of its own
+pub record AreBothRaised (old new : List ℕ) (t : EightFactors) (p : FourPlaces) (into : TwoPlaces) (width : ℕ) : Type 0 where
+  pub first : AreRaised old new t.low p into.first width
+  pub second : AreRaised old new t.high p into.second width
+
 -- so many bytes from each of the places on are within a length
 pub record HasRoom (len width : ℕ) (p : FourPlaces) : Type 0 where
   pub one : p.one + width ≤ len
   pub two : p.two + width ≤ len
   pub three : p.three + width ≤ len
   pub four : p.four + width ≤ len
+
+-- the second place lies behind so many bytes of the first, and has as many
+pub record HasRoomForBoth (len width : ℕ) (into : TwoPlaces) : Type 0 where
+  pub order : into.first + width ≤ into.second
+  pub room : into.second + width ≤ len
 
 -- the column at `from` lies apart from the one at `at`
 abbrev pub IsApart : ℕ → ℕ → Type 0
@@ -38,12 +78,15 @@ pub record AreApart (at : ℕ) (p : FourPlaces) : Type 0 where
   pub three : IsApart at p.three
   pub four : IsApart at p.four
 
--- outside of so many bytes from `at` on all is as before
-abbrev pub SameBefore : List ℕ → List ℕ → ℕ → Type 0
-SameBefore old new at = (k : ℕ) → k < at → slice_index new k ≡ slice_index old k
+-- a column is within a length, and so are the four that it takes from, which lie apart
+pub record TakesFour (len into : ℕ) (p : FourPlaces) : Type 0 where
+  pub room : into + 1024 ≤ len
+  pub places : HasRoom len 1024 p
+  pub apart : AreApart into p
 
-abbrev pub SameFrom : List ℕ → List ℕ → ℕ → Type 0
-SameFrom old new at = (k : ℕ) → at ≤ k → slice_index new k ≡ slice_index old k
-
-abbrev pub SameBetween : List ℕ → List ℕ → ℕ → ℕ → Type 0
-SameBetween old new from to = (k : ℕ) → from ≤ k → k < to → slice_index new k ≡ slice_index old k
+-- so it is with two columns
+pub record BothTakeFour (len : ℕ) (into : TwoPlaces) (p : FourPlaces) : Type 0 where
+  pub room : HasRoomForBoth len 1024 into
+  pub places : HasRoom len 1024 p
+  pub apart : AreApart into.first p
+  pub apart_too : AreApart into.second p

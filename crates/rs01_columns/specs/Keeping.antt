@@ -1,23 +1,11 @@
--- What a program keeps that was tried on the unit words.
-use Rattle.std.specs.Prelude.{ℕ, ◌+◌, ◌≤◌, List, All}
-use Rattle.rs01_columns.specs.Bank.{IsWithin}
+-- What a program was tried for on the unit words.
 use Rattle.rs01_columns.specs.Certificate.{Encodes, Evaluates}
-use Rattle.rs01_columns.specs.declared.program.Step.{Step}
+use Rattle.rs01_columns.specs.declared.kept.KeptProgram.{KeptProgram}
 
--- a number of parity bytes that the code allows, and steps between so many columns
-pub record IsProgram (r columns : ℕ) (steps : List Step) : Type 0 where
-  pub least : 8 ≤ r
-  pub most : r ≤ 100
-  pub room : 255 + r ≤ columns
-  pub fits : columns ≤ 65536
-  pub within : All (IsWithin columns) steps
+-- it encodes
+abbrev pub IsEncoder : KeptProgram → Type 0
+IsEncoder kept = Encodes kept.program.steps.items kept.parity_count
 
--- that encode
-pub record IsEncoder (r columns : ℕ) (steps : List Step) : Type 0 where
-  pub program : IsProgram r columns steps
-  pub encodes : Encodes steps r
-
--- or that give the values at the roots
-pub record IsEvaluator (r columns : ℕ) (steps : List Step) : Type 0 where
-  pub program : IsProgram r columns steps
-  pub evaluates : Evaluates steps r
+-- it gives the values at the roots
+abbrev pub IsEvaluator : KeptProgram → Type 0
+IsEvaluator kept = Evaluates kept.program.steps.items kept.parity_count

@@ -1,4 +1,5 @@
 pub mod Lanes
+pub mod Ranges
 pub mod Fours
 pub mod Program
 pub mod Bank

@@ -1,8 +1,13 @@
 -- Which lanes of a bank, and which words of a layer, are codewords.
-use Rattle.std.specs.Prelude.{◌≡◌, ℕ, ◌+◌, ◌<◌, ◌≤◌, List}
+use Rattle.std.specs.Prelude.{◌≡◌, ℕ, ◌+◌, ◌*◌, ◌<◌, ◌≤◌, List, length}
 use Rattle.rs01_poly.specs.Code.{IsCodeword}
 use Rattle.rs01_columns.specs.Bank.{lane}
 use Rattle.rs01_columns.specs.Layer.{word_at}
+
+-- a bank with r columns behind those of the word
+pub record HasValueColumns (r : ℕ) (bank : List ℕ) : Type 0 where
+  pub few : r ≤ 100
+  pub room : 1088 * (255 + r) ≤ length bank
 
 -- lane l is 0 in the r columns behind the word
 abbrev pub IsZeroLane : List ℕ → ℕ → ℕ → Type 0

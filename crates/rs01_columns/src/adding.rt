@@ -2,10 +2,11 @@
 
 ghost use Rattle.std.specs.Prelude.{◌≡◌, ℕ, ◌+◌, ◌*◌, ◌/◌, ◌%◌, ◌<◌, ◌≤◌, length, slice_index, bit_xor};
 ghost use Rattle.rs01_columns.specs.Lanes.{HasLanes, HoldsProducts};
-ghost use Rattle.rs01_columns.specs.Fours.{AreApart, AreRaised, HasRoom, SameBefore, SameBetween, SameFrom, factors_of, raised_by};
-ghost use Rattle.rs01_gf256.specs.Field.{times};
+ghost use Rattle.rs01_columns.specs.Ranges.{HasAdded, IsRaised, OnlyHere};
+ghost use Rattle.rs01_columns.specs.Fours.{AreAt, AreBothRaised, AreRaised, BothTakeFour, HasRoom, HasRoomForBoth, OnlyInBoth, TakesFour, all_factors_of, both_on, factors_of, places_on, raised_by};
 
-use crate::sixteen::{Table, add_product, load, store, table_of};
+use crate::products::Products;
+use crate::sixteen::{FourSixteens, Table, add_product, load, store, table_of};
 use std::simd::prelude::*;
 
 // One block of sixteen places.
@@ -13,11 +14,8 @@ use std::simd::prelude::*;
 fn add_block(column: &mut [u8], other: &[u8], table: Table, at: usize)
     requires column { at + 16 ≤ length column.old }
     requires other { at + 16 ≤ length other.now }
-    ensures here { (k : ℕ) → k < 16 → slice_index column.new (at + k)
-        ≡ bit_xor (slice_index column.old (at + k)) (times table.factor (slice_index other.now
-        (at + k))) }
-    ensures before { SameBefore column.old column.new at }
-    ensures after { SameFrom column.old column.new (at + 16) }
+    ensures here { IsRaised column.old column.new other.now table.factor at at 16 }
+    ensures rest { OnlyHere column.old column.new at 16 }
 {
     let v = load(other, at);
     let old = load(column, at);
@@ -28,8 +26,7 @@ fn add_block(column: &mut [u8], other: &[u8], table: Table, at: usize)
 fn add_products(column: &mut [u8], other: &[u8], table: Table)
     requires whole { length column.old % 16 ≡ 0 }
     requires same { length other.now ≡ length column.old }
-    ensures { (k : ℕ) → k < length column.old → slice_index column.new k
-        ≡ bit_xor (slice_index column.old k) (times table.factor (slice_index other.now k)) }
+    ensures { HasAdded column.old column.new other.now table.factor }
 {
     for i in 0..column.len() / 16 {
         add_block(column, other, table, i * 16);
@@ -52,8 +49,7 @@ pub fn add_column(column: &mut [u8], other: &[u8], factor: u8, products: &[u8])
     requires whole { length column.old % 16 ≡ 0 }
     requires same { length other.now ≡ length column.old }
     requires products { HoldsProducts products.now }
-    ensures { (k : ℕ) → k < length column.old → slice_index column.new k
-        ≡ bit_xor (slice_index column.old k) (times factor (slice_index other.now k)) }
+    ensures { HasAdded column.old column.new other.now factor }
 {
     if factor == 1 {
         add_plainly(column, other);
@@ -91,15 +87,15 @@ pub struct FourTables {
 
 // Their tables.
 #[inline(always)]
-fn tables_of(factors: FourFactors, products: &[u8]) -> FourTables
-    requires products { HoldsProducts products.now }
+fn tables_of(factors: FourFactors, products: &Products) -> FourTables
     ensures { factors_of result ≡ factors }
 {
+    let bytes = products.bytes();
     FourTables {
-        one: table_of(factors.one, products),
-        two: table_of(factors.two, products),
-        three: table_of(factors.three, products),
-        four: table_of(factors.four, products),
+        one: table_of(factors.one, bytes),
+        two: table_of(factors.two, bytes),
+        three: table_of(factors.three, bytes),
+        four: table_of(factors.four, bytes),
     }
 }
 
@@ -107,8 +103,7 @@ fn tables_of(factors: FourFactors, products: &[u8]) -> FourTables
 #[inline(always)]
 fn moved(from: FourPlaces, on: usize, len: usize) -> FourPlaces
     requires { HasRoom len on from }
-    ensures { result
-        ≡ record { one = from.one + on; two = from.two + on; three = from.three + on; four = from.four + on } }
+    ensures { result ≡ places_on from on }
 {
     FourPlaces {
         one: from.one + on,
@@ -118,29 +113,32 @@ fn moved(from: FourPlaces, on: usize, len: usize) -> FourPlaces
     }
 }
 
+// Sixteen bytes from each of the places on.
+#[inline(always)]
+fn load_four(bank: &[u8], from: FourPlaces) -> FourSixteens
+    requires { HasRoom (length bank.now) 16 from }
+    ensures { AreAt bank.now from result }
+{
+    FourSixteens {
+        one: load(bank, from.one),
+        two: load(bank, from.two),
+        three: load(bank, from.three),
+        four: load(bank, from.four),
+    }
+}
+
 // Sixteen bytes with four products.
 #[inline(always)]
-fn add_four_products(
-    old: u8x16,
-    tables: FourTables,
-    a: u8x16,
-    b: u8x16,
-    c: u8x16,
-    d: u8x16,
-) -> u8x16
-    requires old { length old ≡ 16 }
-    requires a { length a ≡ 16 }
-    requires b { length b ≡ 16 }
-    requires c { length c ≡ 16 }
-    requires d { length d ≡ 16 }
+fn add_four_products(old: u8x16, tables: FourTables, v: FourSixteens) -> u8x16
+    requires { length old ≡ 16 }
     ensures { HasLanes result (λ k. raised_by (factors_of tables)
-        (slice_index old k) (slice_index a k) (slice_index b k) (slice_index c k)
-        (slice_index d k)) }
+        (slice_index old k) (slice_index v.one k) (slice_index v.two k)
+        (slice_index v.three k) (slice_index v.four k)) }
 {
-    let first = add_product(old, tables.one, a);
-    let second = add_product(first, tables.two, b);
-    let third = add_product(second, tables.three, c);
-    add_product(third, tables.four, d)
+    let first = add_product(old, tables.one, v.one);
+    let second = add_product(first, tables.two, v.two);
+    let third = add_product(second, tables.three, v.three);
+    add_product(third, tables.four, v.four)
 }
 
 // Sixteen bytes take four products.
@@ -149,25 +147,18 @@ fn four_block(bank: &mut [u8], into: usize, from: FourPlaces, tables: FourTables
     requires into { into + 16 ≤ length bank.old }
     requires from { HasRoom (length bank.old) 16 from }
     ensures here { AreRaised bank.old bank.new (factors_of tables) from into 16 }
-    ensures before { SameBefore bank.old bank.new into }
-    ensures after { SameFrom bank.old bank.new (into + 16) }
+    ensures rest { OnlyHere bank.old bank.new into 16 }
 {
-    let a = load(bank, from.one);
-    let b = load(bank, from.two);
-    let c = load(bank, from.three);
-    let d = load(bank, from.four);
+    let v = load_four(bank, from);
     let old = load(bank, into);
-    store(bank, into, add_four_products(old, tables, a, b, c, d));
+    store(bank, into, add_four_products(old, tables, v));
 }
 
 // A column takes four products.
 fn add_four(bank: &mut [u8], into: usize, from: FourPlaces, tables: FourTables)
-    requires into { into + 1024 ≤ length bank.old }
-    requires from { HasRoom (length bank.old) 1024 from }
-    requires apart { AreApart into from }
+    requires places { TakesFour (length bank.old) into from }
     ensures here { AreRaised bank.old bank.new (factors_of tables) from into 1024 }
-    ensures before { SameBefore bank.old bank.new into }
-    ensures after { SameFrom bank.old bank.new (into + 1024) }
+    ensures rest { OnlyHere bank.old bank.new into 1024 }
 {
     let len = bank.len();
     for i in 0..64usize {
@@ -181,78 +172,77 @@ pub fn add_multiples(
     into: usize,
     from: FourPlaces,
     factors: FourFactors,
-    products: &[u8],
+    products: &Products,
 )
-    requires products { HoldsProducts products.now }
-    requires into { into + 1024 ≤ length bank.old }
-    requires from { HasRoom (length bank.old) 1024 from }
-    requires apart { AreApart into from }
+    requires places { TakesFour (length bank.old) into from }
     ensures here { AreRaised bank.old bank.new factors from into 1024 }
-    ensures before { SameBefore bank.old bank.new into }
-    ensures after { SameFrom bank.old bank.new (into + 1024) }
+    ensures rest { OnlyHere bank.old bank.new into 1024 }
 {
     add_four(bank, into, from, tables_of(factors, products));
 }
 
-// Sixteen bytes of two columns take four products each.
-#[inline(always)]
-fn eight_block(
-    bank: &mut [u8],
-    first: usize,
-    second: usize,
-    from: FourPlaces,
+/// Where two columns begin.
+#[derive(Clone, Copy)]
+pub struct TwoPlaces {
+    pub first: usize,
+    pub second: usize,
+}
+
+/// The factors for each of two columns.
+#[derive(Clone, Copy)]
+pub struct EightFactors {
+    pub low: FourFactors,
+    pub high: FourFactors,
+}
+
+/// The tables for each of two columns.
+#[derive(Clone, Copy)]
+pub struct EightTables {
     low: FourTables,
     high: FourTables,
-)
-    requires order { first + 16 ≤ second }
-    requires room { second + 16 ≤ length bank.old }
+}
+
+// Sixteen bytes of two columns take four products each.
+#[inline(always)]
+fn eight_block(bank: &mut [u8], into: TwoPlaces, from: FourPlaces, tables: EightTables)
+    requires into { HasRoomForBoth (length bank.old) 16 into }
     requires from { HasRoom (length bank.old) 16 from }
-    ensures first { AreRaised bank.old bank.new (factors_of low) from first 16 }
-    ensures second { AreRaised bank.old bank.new (factors_of high) from second 16 }
-    ensures before { SameBefore bank.old bank.new first }
-    ensures between { SameBetween bank.old bank.new (first + 16) second }
-    ensures after { SameFrom bank.old bank.new (second + 16) }
+    ensures here { AreBothRaised bank.old bank.new (all_factors_of tables) from into 16 }
+    ensures rest { OnlyInBoth bank.old bank.new into 16 }
 {
-    let a = load(bank, from.one);
-    let b = load(bank, from.two);
-    let c = load(bank, from.three);
-    let d = load(bank, from.four);
-    let here = load(bank, first);
-    let there = load(bank, second);
-    store(bank, first, add_four_products(here, low, a, b, c, d));
-    store(bank, second, add_four_products(there, high, a, b, c, d));
+    let v = load_four(bank, from);
+    let here = load(bank, into.first);
+    let there = load(bank, into.second);
+    store(bank, into.first, add_four_products(here, tables.low, v));
+    store(bank, into.second, add_four_products(there, tables.high, v));
+}
+
+// The two places so many bytes on.
+#[inline(always)]
+fn both_moved(into: TwoPlaces, on: usize, len: usize) -> TwoPlaces
+    requires { HasRoomForBoth len on into }
+    ensures { result ≡ both_on into on }
+{
+    TwoPlaces {
+        first: into.first + on,
+        second: into.second + on,
+    }
 }
 
 // Two columns take four products each.
-fn add_eight(
-    bank: &mut [u8],
-    first: usize,
-    second: usize,
-    from: FourPlaces,
-    low: FourTables,
-    high: FourTables,
-)
-    requires order { first + 1024 ≤ second }
-    requires room { second + 1024 ≤ length bank.old }
-    requires from { HasRoom (length bank.old) 1024 from }
-    requires apart { AreApart first from }
-    requires apart_too { AreApart second from }
-    ensures first { AreRaised bank.old bank.new (factors_of low) from first 1024 }
-    ensures second { AreRaised bank.old bank.new (factors_of high) from second 1024 }
-    ensures before { SameBefore bank.old bank.new first }
-    ensures between { SameBetween bank.old bank.new (first + 1024) second }
-    ensures after { SameFrom bank.old bank.new (second + 1024) }
+fn add_eight(bank: &mut [u8], into: TwoPlaces, from: FourPlaces, tables: EightTables)
+    requires places { BothTakeFour (length bank.old) into from }
+    ensures here { AreBothRaised bank.old bank.new (all_factors_of tables) from into 1024 }
+    ensures rest { OnlyInBoth bank.old bank.new into 1024 }
 {
     let len = bank.len();
     for i in 0..64usize {
         let on = 16 * i;
         eight_block(
             bank,
-            first + on,
-            second + on,
+            both_moved(into, on, len),
             moved(from, on, len),
-            low,
-            high,
+            tables,
         );
     }
 }
@@ -260,26 +250,18 @@ fn add_eight(
 /// Adds multiples of four columns of a bank to two that lie apart.
 pub fn add_multiples_to_two(
     bank: &mut [u8],
-    first: usize,
-    second: usize,
+    into: TwoPlaces,
     from: FourPlaces,
-    low: FourFactors,
-    high: FourFactors,
-    products: &[u8],
+    factors: EightFactors,
+    products: &Products,
 )
-    requires products { HoldsProducts products.now }
-    requires order { first + 1024 ≤ second }
-    requires room { second + 1024 ≤ length bank.old }
-    requires from { HasRoom (length bank.old) 1024 from }
-    requires apart { AreApart first from }
-    requires apart_too { AreApart second from }
-    ensures first { AreRaised bank.old bank.new low from first 1024 }
-    ensures second { AreRaised bank.old bank.new high from second 1024 }
-    ensures before { SameBefore bank.old bank.new first }
-    ensures between { SameBetween bank.old bank.new (first + 1024) second }
-    ensures after { SameFrom bank.old bank.new (second + 1024) }
+    requires places { BothTakeFour (length bank.old) into from }
+    ensures here { AreBothRaised bank.old bank.new factors from into 1024 }
+    ensures rest { OnlyInBoth bank.old bank.new into 1024 }
 {
-    let low_tables = tables_of(low, products);
-    let high_tables = tables_of(high, products);
-    add_eight(bank, first, second, from, low_tables, high_tables);
+    let tables = EightTables {
+        low: tables_of(factors.low, products),
+        high: tables_of(factors.high, products),
+    };
+    add_eight(bank, into, from, tables);
 }

@@ -1,39 +1,21 @@
 //! A program is tried on the unit words, which tell what it makes of every word.
 
-ghost use Rattle.std.specs.Prelude.{◌≡◌, ℕ, ◌+◌, ◌-◌, ◌*◌, ◌<◌, ◌≤◌, ◌^◌, ◌++◌, All, IfOk, IsTrue, length, slice_index, take};
-ghost use Rattle.rs01_poly.specs.Code.{VanishesAtRoots, root};
-ghost use Rattle.rs01_poly.specs.Polynomial.{value_at};
-ghost use Rattle.rs01_columns.specs.Bank.{IsWithin, lane};
-ghost use Rattle.rs01_columns.specs.Certificate.{Leaves, LeavesFor, UnitsLeave, parity_bytes, root_values, start, unit_word};
+ghost use Rattle.std.specs.Prelude.{◌≡◌, ℕ, ◌+◌, ◌-◌, ◌*◌, ◌<◌, ◌≤◌, ◌++◌, IfOk, IsTrue, length, slice_index};
+ghost use Rattle.rs01_poly.specs.Code.{VanishesAtRoots};
+ghost use Rattle.rs01_columns.specs.Bank.{IsBank, lane};
+ghost use Rattle.rs01_columns.specs.Certificate.{AreBuffers, HoldUnitsAfter, UnitLaneHolds, UnitLanesHold, parity_bytes, root_values, start, unit_word};
 ghost use Rattle.rs01_columns.specs.Keeping.{IsEncoder, IsEvaluator};
-ghost use Rattle.rs01_columns.specs.Lanes.{HoldsProducts};
+ghost use Rattle.rs01_columns.specs.Scan.{HasValueColumns};
 
+use crate::kept::KeptProgram;
 use crate::laying::read_lane;
-use crate::products::zeros;
-use crate::program::Step;
+use crate::products::Products;
+use crate::program::Program;
 use crate::running::run;
 use rs01_gf256::pow_root;
+use rs01_lists::zeroed;
 use rs01_poly::eval;
 use std::alloc::{AllocError, Global};
-
-// Whether the step is between two different ones of the columns.
-fn is_within(step: Step, columns: usize) -> bool
-    ensures { IsTrue result → IsWithin columns step }
-{
-    (step.into as usize) < columns && (step.from as usize) < columns && step.into != step.from
-}
-
-/// Whether each step is between two different ones of the columns.
-pub fn are_within(steps: &[Step], columns: usize) -> bool
-    ensures { IsTrue result → All (IsWithin columns) steps.now }
-{
-    for step in steps {
-        if !is_within(*step, columns) {
-            return false;
-        }
-    }
-    true
-}
 
 // Lays the unit words of n bytes into the lanes of a bank of zeros.
 fn lay_unit_words(bank: &mut [u8], n: usize)
@@ -81,13 +63,10 @@ fn join(word: &mut [u8; 255], data_: &[u8], parity: &[u8])
 
 // Whether the lane of a unit word holds its parity, with which it is a codeword.
 fn holds_parity(bank: &[u8], place: usize, r: usize, data_: &mut [u8], parity: &mut [u8]) -> bool
-    requires most { r ≤ 100 }
+    requires buffers { AreBuffers r data_.old parity.old }
     requires place { place < 255 - r }
     requires room { 1088 * 255 ≤ length bank.now }
-    requires data_ { length data_.old ≡ 255 - r }
-    requires parity { length parity.old ≡ r }
-    ensures { IsTrue result → (j : ℕ) → j < r → lane bank.now place (255 - r + j)
-        ≡ parity_bytes (unit_word (255 - r) place) j }
+    ensures { IsTrue result → UnitLaneHolds bank.now (255 - r) (255 - r) r parity_bytes place }
 {
     let mut word = [0u8; 255];
     write_unit_word(data_, place);
@@ -98,12 +77,9 @@ fn holds_parity(bank: &[u8], place: usize, r: usize, data_: &mut [u8], parity: &
 
 // Whether the lanes of the unit words hold their parity.
 fn hold_parity(bank: &[u8], r: usize, data_: &mut [u8], parity: &mut [u8]) -> bool
-    requires most { r ≤ 100 }
+    requires buffers { AreBuffers r data_.old parity.old }
     requires room { 1088 * 255 ≤ length bank.now }
-    requires data_ { length data_.old ≡ 255 - r }
-    requires parity { length parity.old ≡ r }
-    ensures { IsTrue result → (i : ℕ) → i < 255 - r → (j : ℕ) → j < r
-        → lane bank.now i (255 - r + j) ≡ parity_bytes (unit_word (255 - r) i) j }
+    ensures { IsTrue result → UnitLanesHold bank.now (255 - r) (255 - r) r parity_bytes }
 {
     for place in 0..255 - r {
         if !holds_parity(bank, place, r, data_, parity) {
@@ -113,54 +89,12 @@ fn hold_parity(bank: &[u8], r: usize, data_: &mut [u8], parity: &mut [u8]) -> bo
     true
 }
 
-// Whether the steps encode the unit words, tried on a bank of zeros.
-fn try_encoding(bank: &mut [u8], steps: &[Step], r: usize, columns: usize, products: &[u8]) -> bool
-    requires products { HoldsProducts products.now }
-    requires most { r ≤ 100 }
-    requires columns { 255 ≤ columns }
-    requires steps { All (IsWithin columns) steps.now }
-    requires room { length bank.old ≡ 1088 * columns }
-    requires zeros { (p : ℕ) → slice_index bank.old p ≡ 0 }
-    ensures { IsTrue result → UnitsLeave steps.now (255 - r) (255 - r) r parity_bytes }
-{
-    let k = 255 - r;
-    lay_unit_words(bank, k);
-    run(steps, bank, columns, products);
-    let mut data_ = [0u8; 255];
-    let mut parity = [0u8; 100];
-    hold_parity(bank, r, &mut data_[..k], &mut parity[..r])
-}
-
-/// Whether the steps are found to encode with `r` parity bytes.
-pub fn encodes(
-    alloc: Global,
-    steps: &[Step],
-    r: usize,
-    columns: usize,
-    products: &[u8],
-) -> Result<bool, AllocError>
-    requires products { HoldsProducts products.now }
-    requires least { 8 ≤ r }
-    requires most { r ≤ 100 }
-    requires columns { 255 + r ≤ columns }
-    requires fits { columns ≤ 65536 }
-    ensures { IfOk result (λ holds. IsTrue holds → IsEncoder r columns steps.now) }
-{
-    if !are_within(steps, columns) {
-        return Ok(false);
-    }
-    let mut bank = zeros(alloc, 1088 * columns)?;
-    Ok(try_encoding(&mut bank, steps, r, columns, products))
-}
-
 // Whether the lane of a unit word holds its values at the first roots.
 fn holds_values(bank: &[u8], place: usize, word: &mut [u8], r: usize) -> bool
     requires word { length word.old ≡ 255 }
     requires place { place < 255 }
-    requires most { r ≤ 100 }
-    requires room { 1088 * (255 + r) ≤ length bank.now }
-    ensures { IsTrue result → (j : ℕ) → j < r → lane bank.now place (255 + j)
-        ≡ root_values (unit_word 255 place) j }
+    requires columns { HasValueColumns r bank.now }
+    ensures { IsTrue result → UnitLaneHolds bank.now 255 255 r root_values place }
 {
     write_unit_word(word, place);
     for j in 0..r {
@@ -174,10 +108,8 @@ fn holds_values(bank: &[u8], place: usize, word: &mut [u8], r: usize) -> bool
 // Whether the lanes of the unit words do.
 fn hold_values(bank: &[u8], word: &mut [u8], r: usize) -> bool
     requires word { length word.old ≡ 255 }
-    requires most { r ≤ 100 }
-    requires room { 1088 * (255 + r) ≤ length bank.now }
-    ensures { IsTrue result → (i : ℕ) → i < 255 → (j : ℕ) → j < r → lane bank.now i (255 + j)
-        ≡ root_values (unit_word 255 i) j }
+    requires columns { HasValueColumns r bank.now }
+    ensures { IsTrue result → UnitLanesHold bank.now 255 255 r root_values }
 {
     for place in 0..word.len() {
         if !holds_values(bank, place, word, r) {
@@ -187,46 +119,50 @@ fn hold_values(bank: &[u8], word: &mut [u8], r: usize) -> bool
     true
 }
 
-// Whether the steps evaluate the unit words, tried on a bank of zeros.
-fn try_evaluating(
-    bank: &mut [u8],
-    steps: &[Step],
-    r: usize,
-    columns: usize,
-    products: &[u8],
-) -> bool
-    requires products { HoldsProducts products.now }
-    requires most { r ≤ 100 }
-    requires columns { 255 + r ≤ columns }
-    requires steps { All (IsWithin columns) steps.now }
-    requires room { length bank.old ≡ 1088 * columns }
+// Runs a program on the unit words of n bytes, in a bank of zeros.
+fn run_on_units(bank: &mut [u8], program: &Program, products: &Products, n: usize)
+    requires n { n ≤ 255 }
+    requires bank { IsBank program.now.columns bank.old }
     requires zeros { (p : ℕ) → slice_index bank.old p ≡ 0 }
-    ensures { IsTrue result → UnitsLeave steps.now 255 255 r root_values }
+    ensures { HoldUnitsAfter bank.new n program.now.steps.items }
 {
-    lay_unit_words(bank, 255);
-    run(steps, bank, columns, products);
-    let mut word = [0u8; 255];
-    hold_values(bank, &mut word, r)
+    lay_unit_words(bank, n);
+    run(program, bank, products);
 }
 
-/// Whether the steps are found to give the values at the first `r` roots.
-pub fn evaluates(
+// The bank after a program was run on the unit words of n bytes.
+fn bank_of_units(
     alloc: Global,
-    steps: &[Step],
-    r: usize,
-    columns: usize,
-    products: &[u8],
-) -> Result<bool, AllocError>
-    requires products { HoldsProducts products.now }
-    requires least { 8 ≤ r }
-    requires most { r ≤ 100 }
-    requires columns { 255 + r ≤ columns }
-    requires fits { columns ≤ 65536 }
-    ensures { IfOk result (λ holds. IsTrue holds → IsEvaluator r columns steps.now) }
+    program: &Program,
+    products: &Products,
+    n: usize,
+) -> Result<Vec<u8>, AllocError>
+    requires { n ≤ 255 }
+    ensures size { IfOk result (λ bank. IsBank program.now.columns bank.items) }
+    ensures units { IfOk result (λ bank. HoldUnitsAfter bank.items n program.now.steps.items) }
 {
-    if !are_within(steps, columns) {
-        return Ok(false);
-    }
-    let mut bank = zeros(alloc, 1088 * columns)?;
-    Ok(try_evaluating(&mut bank, steps, r, columns, products))
+    let mut bank = zeroed(alloc, 1088 * program.columns)?;
+    run_on_units(&mut bank, program, products, n);
+    Ok(bank)
+}
+
+/// Whether the program is found to encode.
+pub fn encodes(alloc: Global, kept: &KeptProgram) -> Result<bool, AllocError>
+    ensures { IfOk result (λ holds. IsTrue holds → IsEncoder kept.now) }
+{
+    let r = kept.parity_count;
+    let k = 255 - r;
+    let bank = bank_of_units(alloc, &kept.program, &kept.products, k)?;
+    let mut data_ = [0u8; 255];
+    let mut parity = [0u8; 100];
+    Ok(hold_parity(&bank, r, &mut data_[..k], &mut parity[..r]))
+}
+
+/// Whether the program is found to give the values at the roots.
+pub fn evaluates(alloc: Global, kept: &KeptProgram) -> Result<bool, AllocError>
+    ensures { IfOk result (λ holds. IsTrue holds → IsEvaluator kept.now) }
+{
+    let bank = bank_of_units(alloc, &kept.program, &kept.products, 255)?;
+    let mut word = [0u8; 255];
+    Ok(hold_values(&bank, &mut word, kept.parity_count))
 }

@@ -1,19 +1,17 @@
 //! The bytes of a layer, laid into a bank and read from it.
 
-ghost use Rattle.std.specs.Prelude.{◌≡◌, ◌≢◌, ℕ, ◌+◌, ◌-◌, ◌*◌, ◌<◌, ◌≤◌, length, slice_index};
-ghost use Rattle.rs01_columns.specs.Bank.{lane};
-ghost use Rattle.rs01_columns.specs.Certificate.{start};
-ghost use Rattle.rs01_columns.specs.Fours.{SameBefore, SameFrom};
-ghost use Rattle.rs01_columns.specs.Layer.{data_at, word_at};
+ghost use Rattle.std.specs.Prelude.{◌≡◌, ℕ, ◌+◌, ◌-◌, ◌*◌, ◌<◌, ◌≤◌, length, slice_index};
+ghost use Rattle.rs01_columns.specs.Bank.{IsInBank, LaneHolds, LaneHoldsFrom, LanesHoldParity, OnlyColumns, OnlyInLane, lane};
+ghost use Rattle.rs01_columns.specs.Certificate.{LanesHold};
+ghost use Rattle.rs01_columns.specs.Layer.{ArePartBlocks, IsPart, IsPartParity, data_at, word_at};
+ghost use Rattle.rs01_columns.specs.Ranges.{IsCopied, OnlyHere, SameBefore};
 
 /// Copies so many bytes.
 pub fn copy(into: &mut [u8], to: usize, from: &[u8], at: usize, count: usize)
     requires into { to + count ≤ length into.old }
     requires from { at + count ≤ length from.now }
-    ensures here { (k : ℕ) → k < count → slice_index into.new (to + k)
-        ≡ slice_index from.now (at + k) }
-    ensures before { SameBefore into.old into.new to }
-    ensures after { SameFrom into.old into.new (to + count) }
+    ensures here { IsCopied into.new to from.now at count }
+    ensures rest { OnlyHere into.old into.new to count }
 {
     into[to..to + count].copy_from_slice(&from[at..at + count]);
 }
@@ -28,12 +26,9 @@ fn clear_from(bank: &mut [u8], at: usize)
 
 /// Lays the data of the codewords from `first` on into the lanes of the bank, and zeros behind it.
 pub fn lay_blocks(bank: &mut [u8], blocks: &[u8], first: usize, r: usize)
-    requires r { r ≤ 255 }
-    requires first { first + 1024 ≤ 2048 }
-    requires blocks { length blocks.now ≡ 2048 * (255 - r) }
-    requires room { 1088 * (255 - r) ≤ length bank.old }
-    ensures { (l : ℕ) → l < 1024 → (j : ℕ) → lane bank.new l j
-        ≡ start (data_at r blocks.now (first + l)) j }
+    requires blocks { ArePartBlocks r first blocks.now }
+    requires room { 1088 * 255 ≤ length bank.old }
+    ensures { LanesHold bank.new (λ l. data_at r blocks.now (first + l)) }
 {
     clear_from(bank, 1088 * (255 - r));
     for place in 0..255 - r {
@@ -43,15 +38,9 @@ pub fn lay_blocks(bank: &mut [u8], blocks: &[u8], first: usize, r: usize)
 
 // Lays bytes into a lane, from the kth column on.
 fn lay_lane(bank: &mut [u8], l: usize, k: usize, bytes: &[u8])
-    requires l { l < 1024 }
-    requires k { k + length bytes.now ≤ 255 }
-    requires room { 1088 * 255 ≤ length bank.old }
-    ensures here { (j : ℕ) → j < length bytes.now → lane bank.new l (k + j)
-        ≡ slice_index bytes.now j }
-    ensures front { (m j : ℕ) → m < 1024 → j < k → lane bank.new m j ≡ lane bank.old m j }
-    ensures behind { (m j : ℕ) → m < 1024 → k + length bytes.now ≤ j → lane bank.new m j
-        ≡ lane bank.old m j }
-    ensures others { (m j : ℕ) → m < 1024 → m ≢ l → lane bank.new m j ≡ lane bank.old m j }
+    requires { IsInBank bank.old l k (length bytes.now) }
+    ensures here { LaneHolds bank.new l k bytes.now }
+    ensures rest { OnlyInLane bank.old bank.new l k (k + length bytes.now) }
 {
     for j in 0..bytes.len() {
         bank[1088 * (k + j) + l] = bytes[j];
@@ -60,14 +49,10 @@ fn lay_lane(bank: &mut [u8], l: usize, k: usize, bytes: &[u8])
 
 // Lays the parity of the codewords from `first` on into the columns behind the data.
 fn lay_parity(bank: &mut [u8], parity: &[u8], first: usize, r: usize)
-    requires r { r ≤ 100 }
-    requires first { first + 1024 ≤ 2048 }
-    requires parity { length parity.now ≡ 2048 * r }
+    requires parity { IsPartParity r first parity.now }
     requires room { 1088 * 255 ≤ length bank.old }
-    ensures here { (l j : ℕ) → l < 1024 → j < r → lane bank.new l (255 - r + j)
-        ≡ slice_index parity.now ((first + l) * r + j) }
-    ensures front { (l j : ℕ) → l < 1024 → j < 255 - r → lane bank.new l j ≡ lane bank.old l j }
-    ensures behind { (l j : ℕ) → l < 1024 → 255 ≤ j → lane bank.new l j ≡ lane bank.old l j }
+    ensures here { LanesHoldParity bank.new r first parity.now }
+    ensures rest { OnlyColumns bank.old bank.new (255 - r) 255 }
 {
     for l in 0..1024usize {
         let codeword = first + l;
@@ -78,13 +63,9 @@ fn lay_parity(bank: &mut [u8], parity: &[u8], first: usize, r: usize)
 
 /// Lays the codewords from `first` on into the lanes of the bank, and zeros behind them.
 pub fn lay_words(bank: &mut [u8], blocks: &[u8], parity: &[u8], first: usize, r: usize)
-    requires r { r ≤ 100 }
-    requires first { first + 1024 ≤ 2048 }
-    requires blocks { length blocks.now ≡ 2048 * (255 - r) }
-    requires parity { length parity.now ≡ 2048 * r }
+    requires part { IsPart r first blocks.now parity.now }
     requires room { 1088 * 255 ≤ length bank.old }
-    ensures { (l : ℕ) → l < 1024 → (j : ℕ) → lane bank.new l j
-        ≡ start (word_at r blocks.now parity.now (first + l)) j }
+    ensures { LanesHold bank.new (λ l. word_at r blocks.now parity.now (first + l)) }
 {
     lay_blocks(bank, blocks, first, r);
     lay_parity(bank, parity, first, r);
@@ -92,10 +73,8 @@ pub fn lay_words(bank: &mut [u8], blocks: &[u8], parity: &[u8], first: usize, r:
 
 /// Reads the bytes of a lane, from the kth column on.
 pub fn read_lane(bank: &[u8], l: usize, k: usize, bytes: &mut [u8])
-    requires l { l < 1024 }
-    requires k { k + length bytes.old ≤ 255 }
-    requires room { 1088 * 255 ≤ length bank.now }
-    ensures { (j : ℕ) → j < length bytes.old → slice_index bytes.new j ≡ lane bank.now l (k + j) }
+    requires { IsInBank bank.now l k (length bytes.old) }
+    ensures { LaneHolds bank.now l k bytes.new }
 {
     for j in 0..bytes.len() {
         bytes[j] = bank[1088 * (k + j) + l];
@@ -104,12 +83,9 @@ pub fn read_lane(bank: &[u8], l: usize, k: usize, bytes: &mut [u8])
 
 // Reads the parity of a lane into its place.
 fn read_parity_of(parity: &mut [u8], at: usize, bank: &[u8], l: usize, r: usize)
-    requires r { r ≤ 100 }
-    requires l { l < 1024 }
+    requires lane { IsInBank bank.now l (255 - r) r }
     requires at { at + r ≤ length parity.old }
-    requires room { 1088 * 255 ≤ length bank.now }
-    ensures here { (j : ℕ) → j < r → slice_index parity.new (at + j)
-        ≡ lane bank.now l (255 - r + j) }
+    ensures here { LaneHoldsFrom bank.now l (255 - r) parity.new at r }
     ensures before { SameBefore parity.old parity.new at }
 {
     read_lane(bank, l, 255 - r, &mut parity[at..at + r]);
@@ -117,12 +93,9 @@ fn read_parity_of(parity: &mut [u8], at: usize, bank: &[u8], l: usize, r: usize)
 
 /// Reads the parity of the codewords from `first` on, one codeword after the other.
 pub fn read_parity(parity: &mut [u8], bank: &[u8], first: usize, r: usize)
-    requires r { r ≤ 100 }
-    requires first { first + 1024 ≤ 2048 }
-    requires parity { length parity.old ≡ 2048 * r }
+    requires parity { IsPartParity r first parity.old }
     requires room { 1088 * 255 ≤ length bank.now }
-    ensures here { (l j : ℕ) → l < 1024 → j < r → slice_index parity.new ((first + l) * r + j)
-        ≡ lane bank.now l (255 - r + j) }
+    ensures here { LanesHoldParity bank.now r first parity.new }
     ensures before { SameBefore parity.old parity.new (first * r) }
 {
     for l in 0..1024usize {

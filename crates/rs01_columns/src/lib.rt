@@ -11,6 +11,7 @@ mod candidates;
 mod certificate;
 mod draft;
 mod encoder;
+mod kept;
 mod laying;
 mod matrix;
 mod pairs;

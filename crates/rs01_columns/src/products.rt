@@ -1,9 +1,10 @@
 //! The table of products, by which a column is multiplied.
 
-ghost use Rattle.std.specs.Prelude.{◌≡◌, ℕ, ◌<◌, length, slice_index, IfOk};
+ghost use Rattle.std.specs.Prelude.{◌≡◌, ◌<◌, length};
 ghost use Rattle.rs01_columns.specs.Lanes.{HoldsProducts, product_there};
 
 use rs01_gf256::Gf;
+use rs01_lists::zeroed;
 use std::alloc::{AllocError, Global};
 
 // The product that stands at a place of the table.
@@ -31,19 +32,26 @@ pub fn write_products(table: &mut [u8])
     }
 }
 
-/// So many zeros.
-pub fn zeros(alloc: Global, size: usize) -> Result<Vec<u8>, AllocError>
-    ensures size { IfOk result (λ list. length list.items ≡ size) }
-    ensures zeros { IfOk result (λ list. (p : ℕ) → slice_index list.items p ≡ 0) }
-{
-    vec![in alloc; 0u8; size]
+/// The table of products.
+#[derive(Drop)]
+pub struct Products {
+    bytes: Vec<u8>,
+    ghost right: { HoldsProducts bytes.items },
 }
 
-/// The table of products.
-pub fn products(alloc: Global) -> Result<Vec<u8>, AllocError>
-    ensures { IfOk result (λ table. HoldsProducts table.items) }
-{
-    let mut table = zeros(alloc, 8192)?;
-    write_products(&mut table);
-    Ok(table)
+impl Products {
+    /// Makes the table.
+    pub fn new(alloc: Global) -> Result<Products, AllocError> {
+        let mut bytes = zeroed(alloc, 8192)?;
+        write_products(&mut bytes);
+        Ok(Products { bytes })
+    }
+
+    /// Its bytes.
+    #[inline(always)]
+    pub fn bytes(&self) -> &[u8]
+        ensures { HoldsProducts result.now }
+    {
+        self.bytes.as_slice()
+    }
 }

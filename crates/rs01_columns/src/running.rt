@@ -1,63 +1,48 @@
 //! The interpreter of column programs.
 
-ghost use Rattle.std.specs.Prelude.{◌≡◌, ℕ, ◌+◌, ◌*◌, ◌%◌, ◌<◌, ◌≤◌, All, drop, IsTrue, bit_xor, length, slice_index};
-ghost use Rattle.rs01_gf256.specs.Field.{times};
-ghost use Rattle.rs01_columns.specs.Bank.{AddTogether, AreWithin, Becomes, IsWithin, TakeAlike, lane, stepped_four};
-ghost use Rattle.rs01_columns.specs.Fours.{SameBefore, SameFrom};
-ghost use Rattle.rs01_columns.specs.Lanes.{HoldsProducts};
+ghost use Rattle.std.specs.Prelude.{◌≡◌, ℕ, ◌+◌, ◌*◌, ◌%◌, ◌<◌, ◌≤◌, IsTrue, length, slice_index};
+ghost use Rattle.rs01_columns.specs.Bank.{AddTogether, Advances, AreAt, ArePaired, AreWithin, Becomes, IsBank, IsWithin, TakeAlike, stepped_four};
+ghost use Rattle.rs01_columns.specs.Ranges.{FitApart, IsRaised, OnlyHere};
 ghost use Rattle.rs01_columns.specs.Program.{begun, meaning, raised, stepped};
 
-use crate::adding::{FourFactors, FourPlaces, add_column, add_multiples, add_multiples_to_two};
-use crate::program::{FourSteps, Step};
+use crate::adding::{
+    EightFactors, FourFactors, FourPlaces, TwoPlaces, add_column, add_multiples,
+    add_multiples_to_two,
+};
+use crate::products::Products;
+use crate::program::{FourSteps, Program, Step};
 
-// Adds a multiple of one range of a bank to another, which lies above.
-fn add_above(bank: &mut [u8], into: usize, from: usize, width: usize, factor: u8, products: &[u8])
+// Adds a multiple of one range of a bank to another, which lies apart.
+fn add_range(bank: &mut [u8], into: usize, from: usize, width: usize, factor: u8, table: &Products)
     requires whole { width % 16 ≡ 0 }
-    requires products { HoldsProducts products.now }
-    requires apart { from + width ≤ into }
-    requires room { into + width ≤ length bank.old }
-    ensures here { (k : ℕ) → k < width → slice_index bank.new (into + k)
-        ≡ bit_xor (slice_index bank.old (into + k)) (times factor (slice_index bank.old
-        (from + k))) }
-    ensures before { SameBefore bank.old bank.new into }
-    ensures after { SameFrom bank.old bank.new (into + width) }
+    requires apart { FitApart (length bank.old) into from width }
+    ensures here { IsRaised bank.old bank.new bank.old factor from into width }
+    ensures rest { OnlyHere bank.old bank.new into width }
 {
-    let (below, above) = bank.split_at_mut(into);
-    add_column(
-        &mut above[..width],
-        &below[from..from + width],
-        factor,
-        products,
-    );
-}
-
-// The same where it lies below.
-fn add_below(bank: &mut [u8], into: usize, from: usize, width: usize, factor: u8, products: &[u8])
-    requires whole { width % 16 ≡ 0 }
-    requires products { HoldsProducts products.now }
-    requires apart { into + width ≤ from }
-    requires room { from + width ≤ length bank.old }
-    ensures here { (k : ℕ) → k < width → slice_index bank.new (into + k)
-        ≡ bit_xor (slice_index bank.old (into + k)) (times factor (slice_index bank.old
-        (from + k))) }
-    ensures before { SameBefore bank.old bank.new into }
-    ensures after { SameFrom bank.old bank.new (into + width) }
-{
-    let (below, above) = bank.split_at_mut(from);
-    add_column(
-        &mut below[into..into + width],
-        &above[..width],
-        factor,
-        products,
-    );
+    if from < into {
+        let (below, above) = bank.split_at_mut(into);
+        add_column(
+            &mut above[..width],
+            &below[from..from + width],
+            factor,
+            table.bytes(),
+        );
+    } else {
+        let (below, above) = bank.split_at_mut(from);
+        add_column(
+            &mut below[into..into + width],
+            &above[..width],
+            factor,
+            table.bytes(),
+        );
+    }
 }
 
 // Clears a range of a bank.
 fn clear(bank: &mut [u8], at: usize, width: usize)
     requires room { at + width ≤ length bank.old }
     ensures here { (k : ℕ) → k < width → slice_index bank.new (at + k) ≡ 0 }
-    ensures before { SameBefore bank.old bank.new at }
-    ensures after { SameFrom bank.old bank.new (at + width) }
+    ensures rest { OnlyHere bank.old bank.new at width }
 {
     bank[at..at + width].fill(0);
 }
@@ -65,7 +50,7 @@ fn clear(bank: &mut [u8], at: usize, width: usize)
 // Clears a column where a step begins it afresh.
 fn begin(bank: &mut [u8], step: Step, columns: usize)
     requires into { step.into < columns }
-    requires room { length bank.old ≡ 1088 * columns }
+    requires bank { IsBank columns bank.old }
     ensures { Becomes bank.old bank.new (begun step) }
 {
     if step.fresh {
@@ -74,26 +59,20 @@ fn begin(bank: &mut [u8], step: Step, columns: usize)
 }
 
 // Adds the multiple of a step.
-fn add(bank: &mut [u8], step: Step, columns: usize, products: &[u8])
-    requires products { HoldsProducts products.now }
+fn add(bank: &mut [u8], step: Step, columns: usize, products: &Products)
     requires step { IsWithin columns step }
-    requires room { length bank.old ≡ 1088 * columns }
+    requires bank { IsBank columns bank.old }
     ensures { Becomes bank.old bank.new (raised step) }
 {
-    let into = step.into as usize;
-    let from = step.from as usize;
-    if from < into {
-        add_above(bank, 1088 * into, 1088 * from, 1024, step.factor, products);
-    } else {
-        add_below(bank, 1088 * into, 1088 * from, 1024, step.factor, products);
-    }
+    let into = 1088 * step.into as usize;
+    let from = 1088 * step.from as usize;
+    add_range(bank, into, from, 1024, step.factor, products);
 }
 
 // One step.
-fn apply(bank: &mut [u8], step: Step, columns: usize, products: &[u8])
-    requires products { HoldsProducts products.now }
+fn apply(bank: &mut [u8], step: Step, columns: usize, products: &Products)
     requires step { IsWithin columns step }
-    requires room { length bank.old ≡ 1088 * columns }
+    requires bank { IsBank columns bank.old }
     ensures { Becomes bank.old bank.new (stepped step) }
 {
     begin(bank, step, columns);
@@ -142,11 +121,10 @@ fn factors_of(steps: FourSteps) -> FourFactors
 }
 
 // Four steps that add to the same column.
-fn apply_four(bank: &mut [u8], steps: FourSteps, columns: usize, products: &[u8])
-    requires products { HoldsProducts products.now }
+fn apply_four(bank: &mut [u8], steps: FourSteps, columns: usize, products: &Products)
     requires together { AddTogether steps }
     requires within { AreWithin columns steps }
-    requires room { length bank.old ≡ 1088 * columns }
+    requires bank { IsBank columns bank.old }
     ensures { Becomes bank.old bank.new (stepped_four steps) }
 {
     let into = 1088 * steps.one.into as usize;
@@ -166,9 +144,7 @@ fn take_alike(steps: FourSteps, others: FourSteps) -> bool
 
 // Whether eight steps add multiples of four columns, the same ones, to two columns.
 fn are_paired(steps: FourSteps, others: FourSteps) -> bool
-    ensures first { IsTrue result → AddTogether steps }
-    ensures second { IsTrue result → AddTogether others }
-    ensures alike { IsTrue result → TakeAlike steps others }
+    ensures { IsTrue result → ArePaired steps others }
 {
     take_alike(steps, others) && add_together(steps) && add_together(others)
 }
@@ -179,101 +155,80 @@ fn apply_eight(
     steps: FourSteps,
     others: FourSteps,
     columns: usize,
-    products: &[u8],
+    products: &Products,
 )
-    requires products { HoldsProducts products.now }
-    requires first { AddTogether steps }
-    requires second { AddTogether others }
-    requires alike { TakeAlike steps others }
+    requires paired { ArePaired steps others }
     requires within { AreWithin columns steps }
     requires others_within { AreWithin columns others }
-    requires room { length bank.old ≡ 1088 * columns }
+    requires bank { IsBank columns bank.old }
     ensures { Becomes bank.old bank.new (λ f. stepped_four others (stepped_four steps f)) }
 {
-    let from = places_of(steps);
-    let low = factors_of(steps);
-    let high = factors_of(others);
-    let first = 1088 * steps.one.into as usize;
-    let second = 1088 * others.one.into as usize;
-    add_multiples_to_two(bank, first, second, from, low, high, products);
+    let into = TwoPlaces {
+        first: 1088 * steps.one.into as usize,
+        second: 1088 * others.one.into as usize,
+    };
+    let factors = EightFactors {
+        low: factors_of(steps),
+        high: factors_of(others),
+    };
+    add_multiples_to_two(bank, into, places_of(steps), factors, products);
+}
+
+// The four steps from this place on.
+fn four_at(program: &Program, place: usize) -> FourSteps
+    requires { place + 4 ≤ length program.now.steps.items }
+    ensures at { AreAt program.now.steps.items place result }
+    ensures within { AreWithin program.now.columns result }
+{
+    FourSteps {
+        one: program.steps[place],
+        two: program.steps[place + 1],
+        three: program.steps[place + 2],
+        four: program.steps[place + 3],
+    }
 }
 
 // Runs one step, or four, from the step at this place on, and gives the place after them.
-fn advance_few(
-    steps: &[Step],
-    place: usize,
-    bank: &mut [u8],
-    columns: usize,
-    products: &[u8],
-) -> usize
-    requires products { HoldsProducts products.now }
-    requires steps { All (IsWithin columns) steps.now }
-    requires place { place < length steps.now }
-    requires room { length bank.old ≡ 1088 * columns }
-    ensures on { place < result }
-    ensures most { result ≤ length steps.now }
-    ensures same { (l : ℕ) → l < 1024 → (j : ℕ)
-        → meaning (drop result steps.now) (lane bank.new l) j
-        ≡ meaning (drop place steps.now) (lane bank.old l) j }
+fn advance_few(program: &Program, place: usize, bank: &mut [u8], products: &Products) -> usize
+    requires place { place < length program.now.steps.items }
+    requires bank { IsBank program.now.columns bank.old }
+    ensures { Advances program.now.steps.items place result bank.old bank.new }
 {
-    if steps.len() - place >= 4 {
-        let four = FourSteps {
-            one: steps[place],
-            two: steps[place + 1],
-            three: steps[place + 2],
-            four: steps[place + 3],
-        };
+    if program.steps.len() - place >= 4 {
+        let four = four_at(program, place);
         if add_together(four) {
-            apply_four(bank, four, columns, products);
+            apply_four(bank, four, program.columns, products);
             return place + 4;
         }
     }
-    apply(bank, steps[place], columns, products);
+    apply(bank, program.steps[place], program.columns, products);
     place + 1
 }
 
 // Runs the steps from this place on, eight where that goes, and gives the place after them.
-fn advance(steps: &[Step], place: usize, bank: &mut [u8], columns: usize, products: &[u8]) -> usize
-    requires products { HoldsProducts products.now }
-    requires steps { All (IsWithin columns) steps.now }
-    requires place { place < length steps.now }
-    requires room { length bank.old ≡ 1088 * columns }
-    ensures on { place < result }
-    ensures most { result ≤ length steps.now }
-    ensures same { (l : ℕ) → l < 1024 → (j : ℕ)
-        → meaning (drop result steps.now) (lane bank.new l) j
-        ≡ meaning (drop place steps.now) (lane bank.old l) j }
+fn advance(program: &Program, place: usize, bank: &mut [u8], products: &Products) -> usize
+    requires place { place < length program.now.steps.items }
+    requires bank { IsBank program.now.columns bank.old }
+    ensures { Advances program.now.steps.items place result bank.old bank.new }
 {
-    if steps.len() - place >= 8 {
-        let four = FourSteps {
-            one: steps[place],
-            two: steps[place + 1],
-            three: steps[place + 2],
-            four: steps[place + 3],
-        };
-        let others = FourSteps {
-            one: steps[place + 4],
-            two: steps[place + 5],
-            three: steps[place + 6],
-            four: steps[place + 7],
-        };
+    if program.steps.len() - place >= 8 {
+        let four = four_at(program, place);
+        let others = four_at(program, place + 4);
         if are_paired(four, others) {
-            apply_eight(bank, four, others, columns, products);
+            apply_eight(bank, four, others, program.columns, products);
             return place + 8;
         }
     }
-    advance_few(steps, place, bank, columns, products)
+    advance_few(program, place, bank, products)
 }
 
-/// Runs the steps on a bank of so many columns.
-pub fn run(steps: &[Step], bank: &mut [u8], columns: usize, products: &[u8])
-    requires products { HoldsProducts products.now }
-    requires steps { All (IsWithin columns) steps.now }
-    requires room { length bank.old ≡ 1088 * columns }
-    ensures { Becomes bank.old bank.new (meaning steps.now) }
+/// Runs a program on a bank of its columns.
+pub fn run(program: &Program, bank: &mut [u8], products: &Products)
+    requires { IsBank program.now.columns bank.old }
+    ensures { Becomes bank.old bank.new (meaning program.now.steps.items) }
 {
     let mut place = 0;
-    while place < steps.len() {
-        place = advance(steps, place, bank, columns, products);
+    while place < program.steps.len() {
+        place = advance(program, place, bank, products);
     }
 }

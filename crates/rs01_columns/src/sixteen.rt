@@ -2,6 +2,7 @@
 
 ghost use Rattle.std.specs.Prelude.{◌≡◌, ℕ, ◌+◌, ◌*◌, ◌/◌, ◌%◌, ◌<◌, ◌≤◌, length, slice_index, bit_xor};
 ghost use Rattle.rs01_columns.specs.Lanes.{HasLanes, HoldsProducts};
+ghost use Rattle.rs01_columns.specs.Ranges.{OnlyHere};
 ghost use Rattle.rs01_gf256.specs.Field.{times};
 
 use std::simd::prelude::*;
@@ -21,8 +22,7 @@ pub fn store(bytes: &mut [u8], at: usize, v: u8x16)
     requires room { at + 16 ≤ length bytes.old }
     requires v { length v ≡ 16 }
     ensures here { (k : ℕ) → k < 16 → slice_index bytes.new (at + k) ≡ slice_index v k }
-    ensures before { (k : ℕ) → k < at → slice_index bytes.new k ≡ slice_index bytes.old k }
-    ensures after { (k : ℕ) → at + 16 ≤ k → slice_index bytes.new k ≡ slice_index bytes.old k }
+    ensures rest { OnlyHere bytes.old bytes.new at 16 }
 {
     v.copy_to_slice(&mut bytes[at..]);
 }
@@ -88,4 +88,17 @@ pub fn add_product(old: u8x16, table: Table, v: u8x16) -> u8x16
         (λ k. bit_xor (slice_index old k) (times table.factor (slice_index v k))) }
 {
     sum(sum(old, by_low(table.low, v)), by_high(table.high, v))
+}
+
+/// Sixteen bytes from each of four places on.
+#[derive(Clone, Copy)]
+pub struct FourSixteens {
+    pub one: u8x16,
+    pub two: u8x16,
+    pub three: u8x16,
+    pub four: u8x16,
+    ghost one_long: { length one ≡ 16 },
+    ghost two_long: { length two ≡ 16 },
+    ghost three_long: { length three ≡ 16 },
+    ghost four_long: { length four ≡ 16 },
 }

@@ -1,20 +1,18 @@
 //! Which codewords of a layer are codewords: those whose values at the roots, the syndromes, are 0.
 
-ghost use Rattle.std.specs.Prelude.{◌≡◌, ℕ, ◌+◌, ◌-◌, ◌*◌, ◌<◌, ◌≤◌, ◌↔◌, All, IfOk, IfSome, IsTrue, bit_or, false, length, slice_index};
-ghost use Rattle.rs01_poly.specs.Code.{IsCodeword, VanishesAtRoots};
-ghost use Rattle.rs01_columns.specs.Bank.{lane};
+ghost use Rattle.std.specs.Prelude.{◌≡◌, ℕ, ◌+◌, ◌-◌, ◌*◌, ◌<◌, ◌≤◌, All, IfOk, IfSome, IsTrue, false, length, slice_index};
+ghost use Rattle.rs01_columns.specs.Bank.{IsBank};
 ghost use Rattle.rs01_columns.specs.Keeping.{IsEvaluator};
-ghost use Rattle.rs01_columns.specs.Lanes.{HoldsProducts};
-ghost use Rattle.rs01_columns.specs.Layer.{SameOutside, word_at};
-ghost use Rattle.rs01_columns.specs.Scan.{AreZeroLanes, CountsCodewords, IsZeroLane};
+ghost use Rattle.rs01_columns.specs.Layer.{IsPart, SameOutside};
+ghost use Rattle.rs01_columns.specs.Scan.{AreZeroLanes, CountsCodewords, HasValueColumns, IsZeroLane};
 
 use crate::candidates::fill_places;
 use crate::certificate::evaluates;
+use crate::kept::KeptProgram;
 use crate::laying::lay_words;
-use crate::products::{products, zeros};
-use crate::program::Step;
 use crate::running::run;
 use crate::steps::evaluating_steps;
+use rs01_lists::zeroed;
 use std::alloc::{AllocError, Global};
 use std::marker::Model;
 
@@ -22,22 +20,18 @@ use std::marker::Model;
 /// program that was tried when it was made.
 #[derive(Drop)]
 pub struct LayerSyndromes {
-    parity_count: usize,
-    columns: usize,
-    steps: Vec<Step>,
-    products: Vec<u8>,
+    kept: KeptProgram,
 }
 
 impl Model for LayerSyndromes {
     ghost use Rattle.std.specs.Prelude.{ℕ};
     ghost use Rattle.rs01_columns.specs.Keeping.{IsEvaluator};
-    ghost use Rattle.rs01_columns.specs.Lanes.{HoldsProducts};
 
     ghost Value = { ℕ };
 
-    ghost view = { λ e. e.parity_count };
+    ghost view = { λ e. e.kept.parity_count };
 
-    ghost invariant = { λ e. IsEvaluator e.parity_count e.columns e.steps.items × HoldsProducts e.products.items };
+    ghost invariant = { λ e. IsEvaluator e.kept };
 }
 
 // Whether a range of a bank is 0. It takes the greatest byte, which is done for sixteen at a time.
@@ -54,8 +48,7 @@ fn range_is_zero(bank: &[u8], at: usize, count: usize) -> bool
 
 // Whether the columns behind the word are 0.
 fn columns_are_zero(bank: &[u8], r: usize) -> bool
-    requires most { r ≤ 100 }
-    requires room { 1088 * (255 + r) ≤ length bank.now }
+    requires columns { HasValueColumns r bank.now }
     ensures { IsTrue result → (l : ℕ) → l < 1024 → IsZeroLane bank.now l r }
 {
     for j in 0..r {
@@ -69,8 +62,7 @@ fn columns_are_zero(bank: &[u8], r: usize) -> bool
 // Whether a lane is 0 behind the word.
 fn lane_is_zero(bank: &[u8], l: usize, r: usize) -> bool
     requires l { l < 1024 }
-    requires most { r ≤ 100 }
-    requires room { 1088 * (255 + r) ≤ length bank.now }
+    requires columns { HasValueColumns r bank.now }
     ensures zero { IsTrue result → IsZeroLane bank.now l r }
     ensures other { result ≡ false → IsZeroLane bank.now l r → ⊥ }
 {
@@ -84,8 +76,7 @@ fn lane_is_zero(bank: &[u8], l: usize, r: usize) -> bool
 
 // The number of lanes before the first that is not 0 behind the word.
 fn count_zero_lanes(bank: &[u8], r: usize) -> usize
-    requires most { r ≤ 100 }
-    requires room { 1088 * (255 + r) ≤ length bank.now }
+    requires columns { HasValueColumns r bank.now }
     ensures most { result ≤ 1024 }
     ensures zero { AreZeroLanes bank.now result r }
     ensures next { result < 1024 → IsZeroLane bank.now result r → ⊥ }
@@ -103,50 +94,34 @@ fn count_zero_lanes(bank: &[u8], r: usize) -> usize
 
 // How many of the words from `first` on are codewords, before the first that is none.
 fn count_part(
-    steps: &[Step],
-    columns: usize,
-    r: usize,
+    kept: &KeptProgram,
     blocks: &[u8],
     parity: &[u8],
     first: usize,
     bank: &mut [u8],
-    products: &[u8],
 ) -> usize
-    requires products { HoldsProducts products.now }
-    requires program { IsEvaluator r columns steps.now }
-    requires blocks { length blocks.now ≡ 2048 * (255 - r) }
-    requires parity { length parity.now ≡ 2048 * r }
-    requires first { first + 1024 ≤ 2048 }
-    requires room { length bank.old ≡ 1088 * columns }
-    ensures { CountsCodewords r blocks.now parity.now first 1024 result }
+    requires evaluator { IsEvaluator kept.now }
+    requires bank { IsBank kept.now.program.columns bank.old }
+    requires part { IsPart kept.now.parity_count first blocks.now parity.now }
+    ensures { CountsCodewords kept.now.parity_count blocks.now parity.now first 1024 result }
 {
-    lay_words(bank, blocks, parity, first, r);
-    run(steps, bank, columns, products);
-    count_zero_lanes(bank, r)
+    lay_words(bank, blocks, parity, first, kept.parity_count);
+    run(&kept.program, bank, &kept.products);
+    count_zero_lanes(bank, kept.parity_count)
 }
 
 // The same of all words.
-fn count_all(
-    steps: &[Step],
-    columns: usize,
-    r: usize,
-    blocks: &[u8],
-    parity: &[u8],
-    bank: &mut [u8],
-    products: &[u8],
-) -> usize
-    requires products { HoldsProducts products.now }
-    requires program { IsEvaluator r columns steps.now }
-    requires blocks { length blocks.now ≡ 2048 * (255 - r) }
-    requires parity { length parity.now ≡ 2048 * r }
-    requires room { length bank.old ≡ 1088 * columns }
-    ensures { CountsCodewords r blocks.now parity.now 0 2048 result }
+fn count_all(kept: &KeptProgram, blocks: &[u8], parity: &[u8], bank: &mut [u8]) -> usize
+    requires evaluator { IsEvaluator kept.now }
+    requires bank { IsBank kept.now.program.columns bank.old }
+    requires layer { IsPart kept.now.parity_count 0 blocks.now parity.now }
+    ensures { CountsCodewords kept.now.parity_count blocks.now parity.now 0 2048 result }
 {
-    let front = count_part(steps, columns, r, blocks, parity, 0, bank, products);
+    let front = count_part(kept, blocks, parity, 0, bank);
     if front < 1024 {
         return front;
     }
-    1024 + count_part(steps, columns, r, blocks, parity, 1024, bank, products)
+    1024 + count_part(kept, blocks, parity, 1024, bank)
 }
 
 impl LayerSyndromes {
@@ -157,16 +132,13 @@ impl LayerSyndromes {
         requires most { r ≤ 100 }
         ensures { IfOk result (λ made. IfSome made (λ test. test ≡ r)) }
     {
-        let columns = 255 + r as usize;
-        let products = products(alloc)?;
         let steps = evaluating_steps(alloc, r as u16)?;
-        if evaluates(alloc, &steps, r as usize, columns, &products)? {
-            Ok(Some(LayerSyndromes {
-                parity_count: r as usize,
-                columns,
-                steps,
-                products,
-            }))
+        let kept = match KeptProgram::new(alloc, r as usize, 255 + r as usize, steps)? {
+            Some(kept) => kept,
+            None => return Ok(None),
+        };
+        if evaluates(alloc, &kept)? {
+            Ok(Some(LayerSyndromes { kept }))
         } else {
             Ok(None)
         }
@@ -177,7 +149,7 @@ impl LayerSyndromes {
         ensures value { result ≡ self.now }
         ensures most { result ≤ 100 }
     {
-        self.parity_count as u32
+        self.kept.parity_count as u32
     }
 
     /// How many words of a layer, of which these are the blocks and the parity, are codewords,
@@ -192,16 +164,8 @@ impl LayerSyndromes {
         requires parity { length parity.now ≡ 2048 * self.now }
         ensures { IfOk result (λ n. CountsCodewords self.now blocks.now parity.now 0 2048 n) }
     {
-        let mut bank = zeros(alloc, 1088 * self.columns)?;
-        let count = count_all(
-            &self.steps,
-            self.columns,
-            self.parity_count,
-            blocks,
-            parity,
-            &mut bank,
-            &self.products,
-        );
+        let mut bank = zeroed(alloc, 1088 * self.kept.program.columns)?;
+        let count = count_all(&self.kept, blocks, parity, &mut bank);
         Ok(count as u32)
     }
 
@@ -222,13 +186,7 @@ impl LayerSyndromes {
         requires parity { length parity.now ≡ 2048 * self.now }
         ensures { SameOutside blocks.old blocks.new erased.now }
     {
-        fill_places(
-            alloc,
-            self.parity_count,
-            blocks,
-            parity,
-            erased,
-            &self.products,
-        )
+        let r = self.kept.parity_count;
+        fill_places(alloc, r, blocks, parity, erased, &self.kept.products)
     }
 }

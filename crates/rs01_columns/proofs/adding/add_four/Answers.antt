@@ -11,9 +11,11 @@ loop-i-preserved c =
     record {
       long = c.four_block.auto.bank ∙ v.long;
       done = more (factors_of c.args.tables) c.args.bank.now c.loop-i.bank c.four_block.new.bank c.args.from c.moved.result c.args.into c.loop-i.i few
-          c.moved.ensures v.done (λ k g h. v.after (c.args.into + k) (omega arith))
-          (all_kept c.args.bank.now c.loop-i.bank c.args.into c.loop-i.i c.args.from few c.requires.apart v.before v.after)
-          b.here (λ k h. b.before (c.args.into + k) (omega arith));
-      before = λ k h. b.before k (omega arith) ∙ v.before k h;
-      after = λ k h. b.after k (omega arith) ∙ v.after k (omega arith);
+          c.moved.ensures v.done (λ k g h. v.rest.after (c.args.into + k) (omega arith))
+          (all_kept c.args.bank.now c.loop-i.bank c.args.into c.loop-i.i c.args.from few c.requires.places.apart v.rest.before v.rest.after)
+          b.here (λ k h. b.rest.before (c.args.into + k) (omega arith));
+      rest = record {
+        before = λ k h. b.rest.before k (omega arith) ∙ v.rest.before k h;
+        after = λ k h. b.rest.after k (omega arith) ∙ v.rest.after k (omega arith);
+      };
     }

@@ -21,6 +21,6 @@ more e first now next other i done left here before k l =
 pub loop-i-preserved : goal.loop-i-preserved
 loop-i-preserved c = record {
   done = more (λ x v. bit_xor x (times c.args.table.factor v)) c.args.column.now c.loop-i.column c.add_block.new.column c.args.other.now c.loop-i.i
-      c.loop-i.invariant.done c.loop-i.invariant.left c.add_block.ensures.here c.add_block.ensures.before;
-  left = λ k l. c.add_block.ensures.after k (omega arith) ∙ c.loop-i.invariant.left k (omega arith);
+      c.loop-i.invariant.done c.loop-i.invariant.left c.add_block.ensures.here c.add_block.ensures.rest.before;
+  left = λ k l. c.add_block.ensures.rest.after k (omega arith) ∙ c.loop-i.invariant.left k (omega arith);
 }

@@ -4,7 +4,7 @@ use Rattle.rs01_columns.proofs.laying.lay_words.Goals as goal
 
 pub returns : goal.returns
 returns c = λ l h j.
-    word_laid c.lay_parity.new.bank c.args.blocks.now c.args.parity.now c.args.r (c.args.first + l) l j (omega arith) (omega arith) c.requires.parity
-    (λ b. c.lay_parity.ensures.front l j h b ∙ c.lay_blocks.ensures l h j)
+    word_laid c.lay_parity.new.bank c.args.blocks.now c.args.parity.now c.args.r (c.args.first + l) l j (omega arith) (omega arith) c.requires.part.of_parity.whole
+    (λ b. c.lay_parity.ensures.rest.front l j h b ∙ c.lay_blocks.ensures l h j)
     (λ m b. c.lay_parity.ensures.here l m h b)
-    (λ b. c.lay_parity.ensures.behind l j h b ∙ c.lay_blocks.ensures l h j)
+    (λ b. c.lay_parity.ensures.rest.behind l j h b ∙ c.lay_blocks.ensures l h j)

@@ -1,4 +1,4 @@
-use Rattle.std.proofs.Common.{◌≡◌, ◌≤◌, ◌+◌, ◌*◌, ◌∙◌, arith, ⊎_elim}
+use Rattle.std.proofs.Common.{◌≡◌, ◌≤◌, ◌+◌, ◌*◌, ◌∙◌, sym, arith, ⊎_elim}
 use Rattle.std.proofs.lemmas.Bool.{cases_lt}
 use Rattle.std.proofs.lemmas.Nat.{mul-le}
 use Rattle.rs01_columns.proofs.Laid.{earlier_byte}
@@ -13,7 +13,7 @@ loop-l-preserved c =
       long = c.read_parity_of.auto.parity ∙ v.long;
       here = λ m j h k.
           ⊎_elim
-          (λ earlier. n.before ((c.args.first + m) * r + j) (earlier_byte c.args.first m c.loop-l.l r j earlier k) ∙ v.here m j earlier k)
+          (λ earlier. v.here m j earlier k ∙ sym (n.before ((c.args.first + m) * r + j) (earlier_byte c.args.first m c.loop-l.l r j earlier k)))
           (λ g. let same : c.loop-l.l ≡ m = omega arith in rw same at (n.here j k))
           (cases_lt m c.loop-l.l);
       before = λ k h.

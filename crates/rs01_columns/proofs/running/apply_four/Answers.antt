@@ -17,4 +17,4 @@ returns c = λ l h j.
     (λ e.
     (λ i. lane new l (e i)) ∙ n.here l h
     ∙ (λ i. raised_by c.factors_of.result (lane old l (sym e i)) (get_or old (p.one i + l) 0) (get_or old (p.two i + l) 0) (get_or old (p.three i + l) 0) (get_or old (p.four i + l) 0)))
-    (λ na. kept old new c.args.steps.one.into l j h na n.before n.after)
+    (λ na. kept old new c.args.steps.one.into l j h na n.rest.before n.rest.after)

@@ -5,9 +5,9 @@ use Rattle.rs01_columns.proofs.running.run.Given as goal
 
 abbrev pub invariant-loop-place : goal.invariant-loop-place
 invariant-loop-place l = record {
-  most : l.place ≤ length l.steps;
-  same : (m : ℕ) → m < 1024 → (j : ℕ) → meaning (drop l.place l.steps) (lane l.bank m) j ≡ meaning l.steps (lane l.initial.bank m) j;
+  most : l.place ≤ length l.program.steps.items;
+  same : (m : ℕ) → m < 1024 → (j : ℕ) → meaning (drop l.place l.program.steps.items) (lane l.bank m) j ≡ meaning l.program.steps.items (lane l.initial.bank m) j;
 }
 
 abbrev pub decreases-loop-place : goal.decreases-loop-place
-decreases-loop-place l = length l.steps - l.place
+decreases-loop-place l = length l.program.steps.items - l.place

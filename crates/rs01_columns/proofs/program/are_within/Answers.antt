@@ -1,7 +1,7 @@
 use Rattle.std.proofs.Common.{arith}
 use Rattle.rs01_columns.specs.Bank.{IsWithin}
 use Rattle.rs01_columns.proofs.Within.{all_more, all_done}
-use Rattle.rs01_columns.proofs.certificate.are_within.Goals as goal
+use Rattle.rs01_columns.proofs.program.are_within.Goals as goal
 
 pub loop-step-preserved : goal.loop-step-preserved
 loop-step-preserved c =
