@@ -5,10 +5,10 @@ use Rattle.std.proofs.lemmas.Bool.{cond-true, cond-false, ne_eqb, cases_eq}
 use Rattle.rs01_gf256.specs.Field.{times}
 use Rattle.rs01_columns.specs.Program.{stepped}
 use Rattle.rs01_columns.specs.Bank.{AddTogether, AreWithin, TakeAlike, stepped_four}
-use Rattle.rs01_columns.specs.Fours.{raised_by}
+use Rattle.rs01_columns.specs.Fours.{AreTablesOf, raised_by}
 use Rattle.rs01_columns.specs.declared.program.Step.{Step}
 use Rattle.rs01_columns.specs.declared.program.FourSteps.{FourSteps}
-use Rattle.rs01_columns.specs.declared.adding.FourFactors.{FourFactors}
+use Rattle.rs01_columns.specs.declared.adding.FourTables.{FourTables}
 
 elsewhere : (s : Step) (f : ℕ → ℕ) (k : ℕ) → (k ≡ s.into → ⊥) → stepped s f k ≡ f k
 elsewhere s f k ne = cond-false (eqb k s.into) _ (f k) (ne_eqb k s.into ne)
@@ -23,13 +23,6 @@ four_elsewhere s f k same ne =
     ∙ elsewhere s.three (stepped s.two (stepped s.one f)) k (λ e. ne (e ∙ same.third))
     ∙ elsewhere s.two (stepped s.one f) k (λ e. ne (e ∙ same.second))
     ∙ elsewhere s.one f k ne
-
--- the factors of four steps
-pub record AreFactors (t : FourFactors) (s : FourSteps) : Type 0 where
-  pub one : t.one ≡ s.one.factor
-  pub two : t.two ≡ s.two.factor
-  pub three : t.three ≡ s.three.factor
-  pub four : t.four ≡ s.four.factor
 
 four_here : (s : FourSteps) (n : ℕ) (f : ℕ → ℕ) (k : ℕ) → AddTogether s → AreWithin n s → k ≡ s.one.into
     → stepped_four s f k
@@ -55,7 +48,7 @@ four_here s n f k same within e =
     ∙ (λ i. bit_xor (bit_xor (bit_xor (h1 i) (times s.two.factor (q1 i))) (times s.three.factor (f s.three.from))) (times s.four.factor (f s.four.from)))
 
 -- by the factors
-raised_here : (s : FourSteps) (t : FourFactors) (n : ℕ) (f : ℕ → ℕ) (k : ℕ) → AddTogether s → AreWithin n s → AreFactors t s → k ≡ s.one.into
+raised_here : (s : FourSteps) (t : FourTables) (n : ℕ) (f : ℕ → ℕ) (k : ℕ) → AddTogether s → AreWithin n s → AreTablesOf t s → k ≡ s.one.into
     → raised_by t (f k) (f s.one.from) (f s.two.from) (f s.three.from) (f s.four.from) ≡ stepped_four s f k
 raised_here s t n f k same within are e =
     (λ i. bit_xor (bit_xor (bit_xor (bit_xor (f k) (times (are.one i) (f s.one.from))) (times (are.two i) (f s.two.from))) (times (are.three i) (f s.three.from)))
@@ -63,7 +56,7 @@ raised_here s t n f k same within are e =
     ∙ sym (four_here s n f k same within e)
 
 -- a column after four steps, by what the one that they add to has become
-pub four_lane : (s : FourSteps) (t : FourFactors) (n : ℕ) (f g : ℕ → ℕ) (j : ℕ) → AddTogether s → AreWithin n s → AreFactors t s
+pub four_lane : (s : FourSteps) (t : FourTables) (n : ℕ) (f g : ℕ → ℕ) (j : ℕ) → AddTogether s → AreWithin n s → AreTablesOf t s
     → (j ≡ s.one.into → g j ≡ raised_by t (f j) (f s.one.from) (f s.two.from) (f s.three.from) (f s.four.from))
     → ((j ≡ s.one.into → ⊥) → g j ≡ f j)
     → g j ≡ stepped_four s f j
@@ -74,8 +67,8 @@ four_lane s t n f g j same within are first rest =
     (cases_eq j s.one.into)
 
 -- a column after eight steps, by what the two that they add to have become
-pub eight_lane : (s o : FourSteps) (t u : FourFactors) (n : ℕ) (f g : ℕ → ℕ) (j : ℕ) → AddTogether s → AddTogether o → TakeAlike s o → AreWithin n s → AreWithin n o
-    → AreFactors t s → AreFactors u o
+pub eight_lane : (s o : FourSteps) (t u : FourTables) (n : ℕ) (f g : ℕ → ℕ) (j : ℕ) → AddTogether s → AddTogether o → TakeAlike s o → AreWithin n s → AreWithin n o
+    → AreTablesOf t s → AreTablesOf u o
     → (j ≡ s.one.into → g j ≡ raised_by t (f j) (f s.one.from) (f s.two.from) (f s.three.from) (f s.four.from))
     → (j ≡ o.one.into → g j ≡ raised_by u (f j) (f s.one.from) (f s.two.from) (f s.three.from) (f s.four.from))
     → ((j ≡ s.one.into → ⊥) → (j ≡ o.one.into → ⊥) → g j ≡ f j)

@@ -4,9 +4,9 @@ use Rattle.std.proofs.lemmas.Bool.{cases_lt}
 use Rattle.rs01_columns.specs.Fours.{AreApart, AreBothRaised, AreRaised, BothTakeFour, IsApart, OnlyInBoth, both_on, places_on, raised_by}
 use Rattle.rs01_columns.specs.Ranges.{SameBefore, SameBetween, SameFrom}
 use Rattle.rs01_columns.specs.declared.adding.FourPlaces.{FourPlaces}
-use Rattle.rs01_columns.specs.declared.adding.FourFactors.{FourFactors}
+use Rattle.rs01_columns.specs.declared.adding.FourTables.{FourTables}
 use Rattle.rs01_columns.specs.declared.adding.TwoPlaces.{TwoPlaces}
-use Rattle.rs01_columns.specs.declared.adding.EightFactors.{EightFactors}
+use Rattle.rs01_columns.specs.declared.adding.EightTables.{EightTables}
 
 -- the bytes of a column are as at first
 abbrev pub Kept : List ℕ → List ℕ → ℕ → Type 0
@@ -19,7 +19,7 @@ pub record AllKept (first now : List ℕ) (p : FourPlaces) : Type 0 where
   pub three : Kept first now p.three
   pub four : Kept first now p.four
 
-pub more : (t : FourFactors) (first now next : List ℕ) (p q : FourPlaces) (into i : ℕ) → i < 64
+pub more : (t : FourTables) (first now next : List ℕ) (p q : FourPlaces) (into i : ℕ) → i < 64
     → q ≡ places_on p (16 * i)
     → AreRaised first now t p into (16 * i)
     → ((k : ℕ) → 16 * i ≤ k → k < 1024 → get_or now (into + k) 0 ≡ get_or first (into + k) 0)
@@ -76,7 +76,7 @@ all_kept_twice first now one other i p order below apart apart_too before betwee
 }
 
 -- sixteen more bytes of two columns have taken four products each
-pub both_more : (t : EightFactors) (first now next : List ℕ) (p q : FourPlaces) (into on : TwoPlaces) (i : ℕ) → i < 64 → BothTakeFour (length first) into p
+pub both_more : (t : EightTables) (first now next : List ℕ) (p q : FourPlaces) (into on : TwoPlaces) (i : ℕ) → i < 64 → BothTakeFour (length first) into p
     → q ≡ places_on p (16 * i) → on ≡ both_on into (16 * i)
     → AreBothRaised first now t p into (16 * i) → OnlyInBoth first now into (16 * i)
     → AreBothRaised now next t q on 16 → OnlyInBoth now next on 16

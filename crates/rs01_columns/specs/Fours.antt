@@ -1,15 +1,14 @@
 -- Four products that are added together, to one column or to two.
-use Rattle.std.specs.Prelude.{◌≡◌, ℕ, ◌+◌, ◌<◌, ◌≤◌, ◌⊎◌, List, bit_xor, slice_index}
+use Rattle.std.specs.Prelude.{◌≡◌, ℕ, ◌+◌, ◌*◌, ◌<◌, ◌≤◌, ◌⊎◌, List, bit_xor, slice_index}
 use Rattle.rs01_gf256.specs.Field.{times}
 use Rattle.rs01_columns.specs.Ranges.{SameBetween}
 pub use Rattle.rs01_columns.specs.Ranges.{SameBefore, SameFrom}
 use Rattle.rs01_columns.specs.declared.adding.FourPlaces.{FourPlaces}
-use Rattle.rs01_columns.specs.declared.adding.FourFactors.{FourFactors}
 use Rattle.rs01_columns.specs.Lanes.{HasLanes}
 use Rattle.rs01_columns.specs.declared.sixteen.FourSixteens.{FourSixteens}
 use Rattle.rs01_columns.specs.declared.adding.FourTables.{FourTables}
 use Rattle.rs01_columns.specs.declared.adding.TwoPlaces.{TwoPlaces}
-use Rattle.rs01_columns.specs.declared.adding.EightFactors.{EightFactors}
+use Rattle.rs01_columns.specs.declared.program.FourSteps.{FourSteps}
 use Rattle.rs01_columns.specs.declared.adding.EightTables.{EightTables}
 
 -- only so many bytes from each of two places on may have changed
@@ -18,12 +17,19 @@ pub record OnlyInBoth (old new : List ℕ) (into : TwoPlaces) (width : ℕ) : Ty
   pub between : SameBetween old new (into.first + width) into.second
   pub after : SameFrom old new (into.second + width)
 
--- what the tables are of
-abbrev pub factors_of : FourTables → FourFactors
-factors_of t = record { one = t.one.factor; two = t.two.factor; three = t.three.factor; four = t.four.factor }
+-- the tables of the factors of four steps
+pub record AreTablesOf (t : FourTables) (s : FourSteps) : Type 0 where
+  pub one : t.one.factor ≡ s.one.factor
+  pub two : t.two.factor ≡ s.two.factor
+  pub three : t.three.factor ≡ s.three.factor
+  pub four : t.four.factor ≡ s.four.factor
 
-abbrev pub all_factors_of : EightTables → EightFactors
-all_factors_of t = record { low = factors_of t.low; high = factors_of t.high }
+-- where the columns begin in a bank from which four steps take
+pub record ArePlacesOf (p : FourPlaces) (s : FourSteps) : Type 0 where
+  pub one : p.one ≡ 1088 * s.one.from
+  pub two : p.two ≡ 1088 * s.two.from
+  pub three : p.three ≡ 1088 * s.three.from
+  pub four : p.four ≡ 1088 * s.four.from
 
 -- the places so many bytes on
 abbrev pub places_on : FourPlaces → ℕ → FourPlaces
@@ -40,18 +46,18 @@ pub record AreAt (bank : List ℕ) (p : FourPlaces) (v : FourSixteens) : Type 0 
   pub four : HasLanes v.four (λ k. slice_index bank (p.four + k))
 
 -- a byte, and with it the products of four others
-abbrev pub raised_by : FourFactors → ℕ → ℕ → ℕ → ℕ → ℕ → ℕ
+abbrev pub raised_by : FourTables → ℕ → ℕ → ℕ → ℕ → ℕ → ℕ
 raised_by t old a b c d =
-    bit_xor (bit_xor (bit_xor (bit_xor old (times t.one a)) (times t.two b)) (times t.three c)) (times t.four d)
+    bit_xor (bit_xor (bit_xor (bit_xor old (times t.one.factor a)) (times t.two.factor b)) (times t.three.factor c)) (times t.four.factor d)
 
 -- of each of `width` bytes from `at` on, the new one is the old one with the products of the bytes at the four places
-abbrev pub AreRaised : List ℕ → List ℕ → FourFactors → FourPlaces → ℕ → ℕ → Type 0
+abbrev pub AreRaised : List ℕ → List ℕ → FourTables → FourPlaces → ℕ → ℕ → Type 0
 AreRaised old new t p at width =
     (k : ℕ) → k < width → slice_index new (at + k)
     ≡ raised_by t (slice_index old (at + k)) (slice_index old (p.one + k)) (slice_index old (p.two + k)) (slice_index old (p.three + k)) (slice_index old (p.four + k))
 
--- so it is at both of two places, each by factors of its own
-pub record AreBothRaised (old new : List ℕ) (t : EightFactors) (p : FourPlaces) (into : TwoPlaces) (width : ℕ) : Type 0 where
+-- so it is at both of two places, each by tables of its own
+pub record AreBothRaised (old new : List ℕ) (t : EightTables) (p : FourPlaces) (into : TwoPlaces) (width : ℕ) : Type 0 where
   pub first : AreRaised old new t.low p into.first width
   pub second : AreRaised old new t.high p into.second width
 

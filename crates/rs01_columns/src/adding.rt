@@ -3,9 +3,10 @@
 ghost use Rattle.std.specs.Prelude.{◌≡◌, ℕ, ◌+◌, ◌*◌, ◌/◌, ◌%◌, ◌<◌, ◌≤◌, length, slice_index, bit_xor};
 ghost use Rattle.rs01_columns.specs.Lanes.{HasLanes, HoldsProducts};
 ghost use Rattle.rs01_columns.specs.Ranges.{HasAdded, IsRaised, OnlyHere};
-ghost use Rattle.rs01_columns.specs.Fours.{AreAt, AreBothRaised, AreRaised, BothTakeFour, HasRoom, HasRoomForBoth, OnlyInBoth, TakesFour, all_factors_of, both_on, factors_of, places_on, raised_by};
+ghost use Rattle.rs01_columns.specs.Fours.{AreAt, AreBothRaised, AreRaised, AreTablesOf, BothTakeFour, HasRoom, HasRoomForBoth, OnlyInBoth, TakesFour, both_on, places_on, raised_by};
 
 use crate::products::Products;
+use crate::program::FourSteps;
 use crate::sixteen::{FourSixteens, Table, add_product, load, store, table_of};
 use std::simd::prelude::*;
 
@@ -67,15 +68,6 @@ pub struct FourPlaces {
     pub four: usize,
 }
 
-/// What each of them is multiplied by.
-#[derive(Clone, Copy)]
-pub struct FourFactors {
-    pub one: u8,
-    pub two: u8,
-    pub three: u8,
-    pub four: u8,
-}
-
 /// The tables of four factors.
 #[derive(Clone, Copy)]
 pub struct FourTables {
@@ -85,17 +77,17 @@ pub struct FourTables {
     four: Table,
 }
 
-// Their tables.
+/// The tables of the factors of four steps.
 #[inline(always)]
-fn tables_of(factors: FourFactors, products: &Products) -> FourTables
-    ensures { factors_of result ≡ factors }
+pub fn tables_of(steps: FourSteps, products: &Products) -> FourTables
+    ensures { AreTablesOf result steps }
 {
     let bytes = products.bytes();
     FourTables {
-        one: table_of(factors.one, bytes),
-        two: table_of(factors.two, bytes),
-        three: table_of(factors.three, bytes),
-        four: table_of(factors.four, bytes),
+        one: table_of(steps.one.factor, bytes),
+        two: table_of(steps.two.factor, bytes),
+        three: table_of(steps.three.factor, bytes),
+        four: table_of(steps.four.factor, bytes),
     }
 }
 
@@ -131,7 +123,7 @@ fn load_four(bank: &[u8], from: FourPlaces) -> FourSixteens
 #[inline(always)]
 fn add_four_products(old: u8x16, tables: FourTables, v: FourSixteens) -> u8x16
     requires { length old ≡ 16 }
-    ensures { HasLanes result (λ k. raised_by (factors_of tables)
+    ensures { HasLanes result (λ k. raised_by tables
         (slice_index old k) (slice_index v.one k) (slice_index v.two k)
         (slice_index v.three k) (slice_index v.four k)) }
 {
@@ -146,7 +138,7 @@ fn add_four_products(old: u8x16, tables: FourTables, v: FourSixteens) -> u8x16
 fn four_block(bank: &mut [u8], into: usize, from: FourPlaces, tables: FourTables)
     requires into { into + 16 ≤ length bank.old }
     requires from { HasRoom (length bank.old) 16 from }
-    ensures here { AreRaised bank.old bank.new (factors_of tables) from into 16 }
+    ensures here { AreRaised bank.old bank.new tables from into 16 }
     ensures rest { OnlyHere bank.old bank.new into 16 }
 {
     let v = load_four(bank, from);
@@ -154,31 +146,16 @@ fn four_block(bank: &mut [u8], into: usize, from: FourPlaces, tables: FourTables
     store(bank, into, add_four_products(old, tables, v));
 }
 
-// A column takes four products.
-fn add_four(bank: &mut [u8], into: usize, from: FourPlaces, tables: FourTables)
+/// Adds multiples of four columns of a bank to one that lies apart.
+pub fn add_four(bank: &mut [u8], into: usize, from: FourPlaces, tables: FourTables)
     requires places { TakesFour (length bank.old) into from }
-    ensures here { AreRaised bank.old bank.new (factors_of tables) from into 1024 }
+    ensures here { AreRaised bank.old bank.new tables from into 1024 }
     ensures rest { OnlyHere bank.old bank.new into 1024 }
 {
     let len = bank.len();
     for i in 0..64usize {
         four_block(bank, into + 16 * i, moved(from, 16 * i, len), tables);
     }
-}
-
-/// Adds multiples of four columns of a bank to one that lies apart.
-pub fn add_multiples(
-    bank: &mut [u8],
-    into: usize,
-    from: FourPlaces,
-    factors: FourFactors,
-    products: &Products,
-)
-    requires places { TakesFour (length bank.old) into from }
-    ensures here { AreRaised bank.old bank.new factors from into 1024 }
-    ensures rest { OnlyHere bank.old bank.new into 1024 }
-{
-    add_four(bank, into, from, tables_of(factors, products));
 }
 
 /// Where two columns begin.
@@ -188,18 +165,11 @@ pub struct TwoPlaces {
     pub second: usize,
 }
 
-/// The factors for each of two columns.
-#[derive(Clone, Copy)]
-pub struct EightFactors {
-    pub low: FourFactors,
-    pub high: FourFactors,
-}
-
 /// The tables for each of two columns.
 #[derive(Clone, Copy)]
 pub struct EightTables {
-    low: FourTables,
-    high: FourTables,
+    pub low: FourTables,
+    pub high: FourTables,
 }
 
 // Sixteen bytes of two columns take four products each.
@@ -207,7 +177,7 @@ pub struct EightTables {
 fn eight_block(bank: &mut [u8], into: TwoPlaces, from: FourPlaces, tables: EightTables)
     requires into { HasRoomForBoth (length bank.old) 16 into }
     requires from { HasRoom (length bank.old) 16 from }
-    ensures here { AreBothRaised bank.old bank.new (all_factors_of tables) from into 16 }
+    ensures here { AreBothRaised bank.old bank.new tables from into 16 }
     ensures rest { OnlyInBoth bank.old bank.new into 16 }
 {
     let v = load_four(bank, from);
@@ -229,10 +199,10 @@ fn both_moved(into: TwoPlaces, on: usize, len: usize) -> TwoPlaces
     }
 }
 
-// Two columns take four products each.
-fn add_eight(bank: &mut [u8], into: TwoPlaces, from: FourPlaces, tables: EightTables)
+/// Adds multiples of four columns of a bank to two that lie apart.
+pub fn add_eight(bank: &mut [u8], into: TwoPlaces, from: FourPlaces, tables: EightTables)
     requires places { BothTakeFour (length bank.old) into from }
-    ensures here { AreBothRaised bank.old bank.new (all_factors_of tables) from into 1024 }
+    ensures here { AreBothRaised bank.old bank.new tables from into 1024 }
     ensures rest { OnlyInBoth bank.old bank.new into 1024 }
 {
     let len = bank.len();
@@ -245,23 +215,4 @@ fn add_eight(bank: &mut [u8], into: TwoPlaces, from: FourPlaces, tables: EightTa
             tables,
         );
     }
-}
-
-/// Adds multiples of four columns of a bank to two that lie apart.
-pub fn add_multiples_to_two(
-    bank: &mut [u8],
-    into: TwoPlaces,
-    from: FourPlaces,
-    factors: EightFactors,
-    products: &Products,
-)
-    requires places { BothTakeFour (length bank.old) into from }
-    ensures here { AreBothRaised bank.old bank.new factors from into 1024 }
-    ensures rest { OnlyInBoth bank.old bank.new into 1024 }
-{
-    let tables = EightTables {
-        low: tables_of(factors.low, products),
-        high: tables_of(factors.high, products),
-    };
-    add_eight(bank, into, from, tables);
 }

@@ -88,33 +88,13 @@ fn matrix_row(product: &[u8; 101], r: usize, i: u32, row: &mut [u8; 101])
 }
 
 impl Draft {
-    // The terms of a row of the matrix from `first` on, at most four.
-    fn terms(
-        &mut self,
-        into: u16,
-        row: &[u8; 101],
-        first: usize,
-        r: usize,
-    ) -> Result<(), AllocError>
-        requires r { r ≤ 100 }
-        requires first { first ≤ 100 }
-    {
-        for m in 0..4usize {
-            let j = first + m;
-            if j < r {
-                self.put(into, VALUES + j as u16, Gf(row[j]), false)?;
-            }
-        }
-        Ok(())
-    }
-
     // One row of the matrix, behind a clearing.
-    fn row(&mut self, into: u16, row: &[u8; 101], r: usize) -> Result<(), AllocError>
-        requires { r ≤ 100 }
+    fn row(&mut self, into: u16, row: &[u8]) -> Result<(), AllocError>
+        requires { length row.now ≤ 100 }
     {
         self.clear(into, VALUES)?;
         for m in 0..25usize {
-            self.terms(into, row, 4 * m, r)?;
+            self.terms(into, VALUES, row, 4 * m)?;
         }
         Ok(())
     }
@@ -123,18 +103,18 @@ impl Draft {
     fn two_rows(
         &mut self,
         into: u16,
-        row: &[u8; 101],
+        row: &[u8],
         other: u16,
-        other_row: &[u8; 101],
-        r: usize,
+        other_row: &[u8],
     ) -> Result<(), AllocError>
-        requires { r ≤ 100 }
+        requires row { length row.now ≤ 100 }
+        requires other_row { length other_row.now ≤ 100 }
     {
         self.clear(into, VALUES)?;
         self.clear(other, VALUES)?;
         for m in 0..25usize {
-            self.terms(into, row, 4 * m, r)?;
-            self.terms(other, other_row, 4 * m, r)?;
+            self.terms(into, VALUES, row, 4 * m)?;
+            self.terms(other, VALUES, other_row, 4 * m)?;
         }
         Ok(())
     }
@@ -153,11 +133,16 @@ pub fn by_matrix(draft: &mut Draft, r: u16) -> Result<(), AllocError>
         let t = 2 * m;
         matrix_row(&product, r as usize, u32::from(r - 1 - t), &mut row);
         matrix_row(&product, r as usize, u32::from(r - 2 - t), &mut other);
-        draft.two_rows(255 - r + t, &row, 256 - r + t, &other, r as usize)?;
+        draft.two_rows(
+            255 - r + t,
+            &row[..r as usize],
+            256 - r + t,
+            &other[..r as usize],
+        )?;
     }
     if r % 2 == 1 {
         matrix_row(&product, r as usize, 0, &mut row);
-        draft.row(254, &row, r as usize)?;
+        draft.row(254, &row[..r as usize])?;
     }
     Ok(())
 }
@@ -177,12 +162,12 @@ pub fn by_places(draft: &mut Draft, erased: &[u8]) -> Result<(), AllocError>
         let next = erased[2 * m + 1];
         matrix_row(&product, r, 254 - u32::from(here), &mut row);
         matrix_row(&product, r, 254 - u32::from(next), &mut other);
-        draft.two_rows(u16::from(here), &row, u16::from(next), &other, r)?;
+        draft.two_rows(u16::from(here), &row[..r], u16::from(next), &other[..r])?;
     }
     if r % 2 == 1 {
         let last = erased[r - 1];
         matrix_row(&product, r, 254 - u32::from(last), &mut row);
-        draft.row(u16::from(last), &row, r)?;
+        draft.row(u16::from(last), &row[..r])?;
     }
     Ok(())
 }

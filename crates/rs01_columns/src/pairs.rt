@@ -74,13 +74,13 @@ fn pair_of_roots(product: &[u8; 101], r: u32, i: u32, quotient: &mut [u8; 101]) 
     }
 }
 
-// Keeps the first half of the coefficients of a pair.
+// Keeps the first half of the coefficients of pair i, in place i of the rows of the table.
 fn keep_half(table: &mut [u8; 2500], i: usize, quotient: &[u8; 101], half: usize)
     requires i { i < 50 }
     requires half { half ≤ 50 }
 {
     for j in 0..half {
-        table[50 * i + j] = quotient[j];
+        table[50 * j + i] = quotient[j];
     }
 }
 
@@ -101,30 +101,6 @@ impl Draft {
         self.put(high, other, weights.high_other, false)
     }
 
-    // The terms of coefficient j from the pair `first` on, at most four.
-    fn pair_terms(
-        &mut self,
-        into: u16,
-        from: u16,
-        table: &[u8; 2500],
-        j: usize,
-        first: usize,
-        half: usize,
-    ) -> Result<(), AllocError>
-        requires from { from ≤ 1000 }
-        requires half { half ≤ 50 }
-        requires first { first ≤ 100 }
-        requires j { j < 50 }
-    {
-        for m in 0..4usize {
-            let i = first + m;
-            if i < half {
-                self.put(into, from + i as u16, Gf(table[50 * i + j]), false)?;
-            }
-        }
-        Ok(())
-    }
-
     // Coefficients j and j + 1, or the last one alone.
     fn two_coefficients(
         &mut self,
@@ -142,9 +118,14 @@ impl Draft {
         let here = into + j as u16;
         let two = j + 1 < half;
         for m in 0..13usize {
-            self.pair_terms(here, from, table, j, 4 * m, half)?;
+            self.terms(here, from, &table[50 * j..50 * j + half], 4 * m)?;
             if two {
-                self.pair_terms(here + 1, from, table, j + 1, 4 * m, half)?;
+                self.terms(
+                    here + 1,
+                    from,
+                    &table[50 * j + 50..50 * j + 50 + half],
+                    4 * m,
+                )?;
             }
         }
         Ok(())

@@ -2,12 +2,12 @@
 
 ghost use Rattle.std.specs.Prelude.{◌≡◌, ℕ, ◌+◌, ◌*◌, ◌%◌, ◌<◌, ◌≤◌, IsTrue, length, slice_index};
 ghost use Rattle.rs01_columns.specs.Bank.{AddTogether, Advances, AreAt, ArePaired, AreWithin, Becomes, IsBank, IsWithin, TakeAlike, stepped_four};
+ghost use Rattle.rs01_columns.specs.Fours.{ArePlacesOf};
 ghost use Rattle.rs01_columns.specs.Ranges.{FitApart, IsRaised, OnlyHere};
 ghost use Rattle.rs01_columns.specs.Program.{begun, meaning, raised, stepped};
 
 use crate::adding::{
-    EightFactors, FourFactors, FourPlaces, TwoPlaces, add_column, add_multiples,
-    add_multiples_to_two,
+    EightTables, FourPlaces, TwoPlaces, add_column, add_eight, add_four, tables_of,
 };
 use crate::products::Products;
 use crate::program::{FourSteps, Program, Step};
@@ -92,31 +92,13 @@ fn add_together(steps: FourSteps) -> bool
 
 // Where the columns begin from which four steps take.
 fn places_of(steps: FourSteps) -> FourPlaces
-    ensures one { result.one ≡ 1088 * steps.one.from }
-    ensures two { result.two ≡ 1088 * steps.two.from }
-    ensures three { result.three ≡ 1088 * steps.three.from }
-    ensures four { result.four ≡ 1088 * steps.four.from }
+    ensures { ArePlacesOf result steps }
 {
     FourPlaces {
         one: 1088 * steps.one.from as usize,
         two: 1088 * steps.two.from as usize,
         three: 1088 * steps.three.from as usize,
         four: 1088 * steps.four.from as usize,
-    }
-}
-
-// The factors of four steps.
-fn factors_of(steps: FourSteps) -> FourFactors
-    ensures one { result.one ≡ steps.one.factor }
-    ensures two { result.two ≡ steps.two.factor }
-    ensures three { result.three ≡ steps.three.factor }
-    ensures four { result.four ≡ steps.four.factor }
-{
-    FourFactors {
-        one: steps.one.factor,
-        two: steps.two.factor,
-        three: steps.three.factor,
-        four: steps.four.factor,
     }
 }
 
@@ -128,7 +110,7 @@ fn apply_four(bank: &mut [u8], steps: FourSteps, columns: usize, products: &Prod
     ensures { Becomes bank.old bank.new (stepped_four steps) }
 {
     let into = 1088 * steps.one.into as usize;
-    add_multiples(bank, into, places_of(steps), factors_of(steps), products);
+    add_four(bank, into, places_of(steps), tables_of(steps, products));
 }
 
 // Whether four steps take from the same columns as four others, and add to a column behind theirs.
@@ -167,11 +149,11 @@ fn apply_eight(
         first: 1088 * steps.one.into as usize,
         second: 1088 * others.one.into as usize,
     };
-    let factors = EightFactors {
-        low: factors_of(steps),
-        high: factors_of(others),
+    let tables = EightTables {
+        low: tables_of(steps, products),
+        high: tables_of(others, products),
     };
-    add_multiples_to_two(bank, into, places_of(steps), factors, products);
+    add_eight(bank, into, places_of(steps), tables);
 }
 
 // The four steps from this place on.
@@ -188,13 +170,23 @@ fn four_at(program: &Program, place: usize) -> FourSteps
     }
 }
 
-// Runs one step, or four, from the step at this place on, and gives the place after them.
-fn advance_few(program: &Program, place: usize, bank: &mut [u8], products: &Products) -> usize
+// Runs the step at this place, or four or eight from it on where they go together, and gives the
+// place after them.
+fn advance(program: &Program, place: usize, bank: &mut [u8], products: &Products) -> usize
     requires place { place < length program.now.steps.items }
     requires bank { IsBank program.now.columns bank.old }
     ensures { Advances program.now.steps.items place result bank.old bank.new }
 {
-    if program.steps.len() - place >= 4 {
+    let left = program.steps.len() - place;
+    if left >= 8 {
+        let four = four_at(program, place);
+        let others = four_at(program, place + 4);
+        if are_paired(four, others) {
+            apply_eight(bank, four, others, program.columns, products);
+            return place + 8;
+        }
+    }
+    if left >= 4 {
         let four = four_at(program, place);
         if add_together(four) {
             apply_four(bank, four, program.columns, products);
@@ -203,23 +195,6 @@ fn advance_few(program: &Program, place: usize, bank: &mut [u8], products: &Prod
     }
     apply(bank, program.steps[place], program.columns, products);
     place + 1
-}
-
-// Runs the steps from this place on, eight where that goes, and gives the place after them.
-fn advance(program: &Program, place: usize, bank: &mut [u8], products: &Products) -> usize
-    requires place { place < length program.now.steps.items }
-    requires bank { IsBank program.now.columns bank.old }
-    ensures { Advances program.now.steps.items place result bank.old bank.new }
-{
-    if program.steps.len() - place >= 8 {
-        let four = four_at(program, place);
-        let others = four_at(program, place + 4);
-        if are_paired(four, others) {
-            apply_eight(bank, four, others, program.columns, products);
-            return place + 8;
-        }
-    }
-    advance_few(program, place, bank, products)
 }
 
 /// Runs a program on a bank of its columns.
