@@ -1,6 +1,6 @@
 -- A word that is a codeword with its erased bytes filled in is the one that the word is completed to.
-use Rattle.std.proofs.Common.{◌≡◌, ℕ, ◌+◌, ◌-◌, ◌*◌, ◌<◌, ◌≤◌, List, [], ◌++◌, length, take, drop, get_or, sym, ap, ◌∙◌, arith, ⊎_elim, subst}
-use Rattle.std.specs.Prelude.{All, IsSome, is_some, unwrap_or}
+use Rattle.std.proofs.Common.{◌≡◌, ℕ, ◌+◌, ◌-◌, ◌*◌, ◌<◌, ◌≤◌, List, ◌++◌, length, take, drop, get_or, sym, ◌∙◌, arith, ⊎_elim, subst}
+use Rattle.std.specs.Prelude.{All}
 use Rattle.std.specs.List.Sorted.{IsStrictlyIncreasing}
 use Rattle.std.proofs.lemmas.Bool.{cases_lt}
 use Rattle.std.proofs.lemmas.List.{get_or_append_left, get_or-append_right}
@@ -12,10 +12,10 @@ use Rattle.rs01_layers.proofs.BlockLemmas.{length-column, length-blocks_of, get_
 use Rattle.rs01_poly.specs.Code.{AgreeOutside, IsCodeword}
 use Rattle.rs01_columns.specs.Layer.{SameOutside, data_at, word_at}
 use Rattle.rs01_columns.proofs.Laid.{length-data, length-word}
-use Rattle.rs01_erase.specs.Completed.{AreCompleted, HoldsBlocks}
+use Rattle.rs01_erase.specs.Completed.{AreBlocksAt, AreCompleted}
 use Rattle.rs01_erase.specs.Correcting.{blocks_in}
-use Rattle.rs01_erase.specs.LayerValue.{erased_places, word_of}
-use Rattle.rs01_erase.specs.Restoring.{HoldsByte, completed_at}
+use Rattle.rs01_erase.specs.LayerValue.{word_of}
+use Rattle.rs01_erase.specs.Restoring.{AreErased, AreFilled, HoldsCodeword, completed_at}
 use Rattle.rs01_erase.proofs.Completions.{completion-is}
 use Rattle.rs01_erase.proofs.ErasedPlaces.{erased_rise, erased_below_at}
 
@@ -38,24 +38,24 @@ words_agree k old new places rest b below same p out =
     get_or-append_right one rest k p 0 l1 past ∙ sym (get_or-append_right other rest k p 0 l2 past))
     (cases_lt p k)
 
-pub rises : (input : LayerInput) (places : List ℕ) → places ≡ erased_places input.erased → IsStrictlyIncreasing places
-rises input places same = subst IsStrictlyIncreasing (sym same) (erased_rise input.erased)
+pub rises : (input : LayerInput) (places : List ℕ) → AreErased input places → IsStrictlyIncreasing places
+rises input places are = subst IsStrictlyIncreasing (sym are.erased) (erased_rise input.erased)
 
-pub place_below : (input : LayerInput) (places : List ℕ) (k : ℕ) → places ≡ erased_places input.erased → k < length places
+pub place_below : (input : LayerInput) (places : List ℕ) (k : ℕ) → AreErased input places → k < length places
     → get_or places k 0 < 255 - input.parity_count
-place_below input places k same h =
+place_below input places k are h =
     let Below : List ℕ → Type 0 = λ l. k < length l → get_or l k 0 < length input.erased in
-    omega (arith, input.erased_len, subst Below (sym same) (erased_below_at input.erased k) h)
+    omega (arith, input.erased_len, subst Below (sym are.erased) (erased_below_at input.erased k) h)
 
-pub places_below : (input : LayerInput) (places : List ℕ) (n : ℕ) → places ≡ erased_places input.erased → 255 - input.parity_count ≤ n → All (λ p. p < n) places
-places_below input places n same h = All-from_get_or (λ p. p < n) places 0 (λ k l. omega (arith, place_below input places k same l))
+pub places_below : (input : LayerInput) (places : List ℕ) (n : ℕ) → AreErased input places → 255 - input.parity_count ≤ n → All (λ p. p < n) places
+places_below input places n are h = All-from_get_or (λ p. p < n) places 0 (λ k l. omega (arith, place_below input places k are l))
 
-pub are_completed : (input : LayerInput) (places blocks parity : List ℕ) (r n : ℕ) → r ≡ input.parity_count → parity ≡ input.parity → places ≡ erased_places input.erased → length places ≤ input.parity_count
-    → length input.parity ≡ 2048 * input.parity_count → SameOutside input.data_ blocks places → n ≤ 2048
+pub are_completed : (input : LayerInput) (places blocks parity : List ℕ) (r n : ℕ) → AreErased input places → AreFilled input places blocks
+    → r ≡ input.parity_count → parity ≡ input.parity → n ≤ 2048
     → ((b : ℕ) → b < n → IsCodeword (word_at r blocks parity (0 + b)) r)
     → AreCompleted input places blocks n
 unfolding completed_at word_of
-are_completed input places blocks parity given n count recorded same few whole kept most codes b h =
+are_completed input places blocks parity given n are filled count recorded most codes b h =
     let r = input.parity_count in
     let here : 0 + b ≡ b = omega arith in
     let code : IsCodeword (word_at r blocks input.parity b) r =
@@ -64,23 +64,23 @@ are_completed input places blocks parity given n count recorded same few whole k
     let rest : List ℕ = take r (drop (b * r) input.parity) in
     let below : b < 2048 = omega arith in
     completion-is (column (blocks_in input) b ++ rest) places r (word_at r blocks input.parity b)
-    (length-word r input.data_ input.parity b (omega (arith, input.most)) below whole)
-    (λ k l. omega (arith, place_below input places k same l)) (rises input places same) few code
-    (words_agree (255 - r) input.data_ blocks places rest b below kept)
+    (length-word r input.data_ input.parity b (omega (arith, input.most)) below are.parity)
+    (λ k l. omega (arith, place_below input places k are l)) (rises input places are) are.few code
+    (words_agree (255 - r) input.data_ blocks places rest b below filled.kept)
 
--- what is completed is there
-pub some_completed : (input : LayerInput) (places blocks : List ℕ) (n : ℕ) → AreCompleted input places blocks n → (b : ℕ) → b < n → IsSome (completed_at input places b)
-some_completed input places blocks n done b h = ap is_some (done b h)
-
--- the bytes of the restored blocks
-pub holds : (input : LayerInput) (places blocks restored : List ℕ) (b : ℕ) → places ≡ erased_places input.erased → b < 2048
-    → AreCompleted input places blocks 2048 → HoldsBlocks restored blocks places (length places) → HoldsByte input places restored b
-holds input places blocks restored b same below done held k h =
+-- the blocks at the erased places hold the completed codewords
+pub holds : (input : LayerInput) (places blocks restored : List ℕ) → AreErased input places
+    → AreCompleted input places blocks 2048 → AreBlocksAt restored blocks places → (b : ℕ) → b < 2048 → HoldsCodeword input places restored b
+holds input places blocks restored are done held b below =
     let r = input.parity_count in
     let d = data_at r blocks b in
-    let p = get_or places k 0 in
-    let inside : p < 255 - r = place_below input places k same h in
-    held k b h below
-    ∙ sym (get_or-column-blocks_of (255 - r) blocks b p below inside)
-    ∙ sym (get_or_append_left d (take r (drop (b * r) input.parity)) 0 p (omega (arith, length-data r blocks b)))
-    ∙ ap (λ o. get_or (unwrap_or o []) p 0) (sym (done b below))
+    record {
+      word = word_at r blocks input.parity b;
+      completed = done b below;
+      bytes = λ k h.
+          let p = get_or places k 0 in
+          let inside : p < 255 - r = place_below input places k are h in
+          held k b h below
+          ∙ sym (get_or-column-blocks_of (255 - r) blocks b p below inside)
+          ∙ sym (get_or_append_left d (take r (drop (b * r) input.parity)) 0 p (omega (arith, length-data r blocks b)));
+    }

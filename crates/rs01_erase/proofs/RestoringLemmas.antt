@@ -1,6 +1,6 @@
 -- The restored blocks while they are being made, and what they are in the end.
-use Rattle.std.proofs.Common.{◌≡◌, ℕ, ◌+◌, ◌-◌, ◌*◌, ◌<◌, ◌≤◌, List, [], ◌∷◌, ◌++◌, length, get_or, take, drop, map, refl, sym, ap, ◌∙◌, arith, Bool, true, false, cond, eqb, ltb, eq-eqb, Option, Some, None, set, subst, Result, Err}
-use Rattle.std.specs.Prelude.{not, is_none, IsSome, IsNone, unwrap_or, ◌↔◌}
+use Rattle.std.proofs.Common.{◌≡◌, ◌≢◌, ℕ, ◌+◌, ◌-◌, ◌*◌, ◌<◌, ◌≤◌, List, [], ◌∷◌, ◌++◌, length, get_or, take, drop, map, refl, sym, ap, ◌∙◌, arith, Bool, true, false, cond, eqb, ltb, eq-eqb, Option, Some, None, set, subst, Result, Err, below_more}
+use Rattle.std.specs.Prelude.{not, is_none, is_some, IsSome, IsNone, unwrap_or, ◌↔◌}
 use Rattle.std.specs.List.{find, filter, range_with_len}
 use Rattle.std.specs.Option.{option_map, option_map_or}
 use Rattle.std.proofs.lemmas.Bool.{cond-true, cond-false, le-ltb, not_from_true, not_from_false, ne_eqb}
@@ -18,7 +18,7 @@ use Rattle.rs01_erase.specs.declared.restore.EraseRefusal.TheVariants as refusal
 use Rattle.rs01_erase.specs.Completion.{completion}
 use Rattle.rs01_erase.specs.LayerValue.{codewords, erased_places, word_of, completed, restored_block, placed, first_inconsistent, first_bad_sum, correct_of}
 use Rattle.rs01_erase.specs.Correcting.{blocks_in, correct}
-use Rattle.rs01_erase.specs.Restoring.{HoldsByte, block_in, bad_sum_in, completed_at, placed_blocks}
+use Rattle.rs01_erase.specs.Restoring.{AreErased, HoldsCodeword, HoldsOthers, HoldsWord, block_in, bad_sum_in, completed_at, placed_blocks}
 use Rattle.rs01_erase.proofs.Found.{find_first, find_none, find_same, map_same}
 use Rattle.rs01_erase.proofs.ErasedPlaces.{number_in_range}
 use Rattle.rs01_erase.proofs.LayerValueLemmas.{codewords-is, correct_of-beyond}
@@ -72,6 +72,19 @@ none_completed (refusal.Beyond m) n r o few beyond inconsistent =
     let many : r < n = ((beyond m).0 refl).0 in absurd (omega arith)
 none_completed refusal.Inconsistent n r o few beyond inconsistent = (inconsistent.0 refl).1
 
+-- one codeword more is stored
+pub one_more_held : (input : LayerInput) (places old new word : List ℕ) (i : ℕ) → i < 2048 → completed_at input places i ≡ Some word
+    → HoldsWord word places new i → HoldsOthers old new i → ((b : ℕ) → b < i → HoldsCodeword input places old b)
+    → (b : ℕ) → b < i + 1 → HoldsCodeword input places new b
+one_more_held input places old new word i below completed here others before =
+    below_more _ _
+    (λ b h. (let ne : b ≢ i = omega arith in record {
+      word = (before b h).word;
+      completed = (before b h).completed;
+      bytes = λ k l. others k b (omega arith) ne ∙ (before b h).bytes k l;
+    }))
+    (record { word = word; completed = completed; bytes = here })
+
 -- ---- all codewords
 
 length-block_in : (restored : List ℕ) (k : ℕ) → 2048 * k + 2048 ≤ length restored → length (block_in restored k) ≡ 2048
@@ -90,6 +103,10 @@ block_in-is restored k n e = ap (λ m. take m (drop (2048 * k) restored)) e
 completed-at : (input : LayerInput) (b : ℕ) → completed (blocks_in input) input.erased input.parity input.parity_count b ≡ completed_at input (erased_places input.erased) b
 unfolding completed completed_at
 completed-at input b = refl
+
+-- byte b of each of the restored blocks is that of the completed codeword
+abbrev pub HoldsByte : LayerInput → List ℕ → List ℕ → ℕ → Type 0
+HoldsByte input places restored b = HoldsWord (unwrap_or (completed_at input places b) []) places restored b
 
 -- the restored blocks hold the bytes of all completed codewords
 abbrev pub HoldsAll : LayerInput → List ℕ → Type 0
@@ -308,24 +325,24 @@ all_placed restored places k list all held =
 
 -- ---- the answers, where the erased places are known by another name
 
-pub inconsistent_answer : (input : LayerInput) (places : List ℕ) (b : ℕ) → places ≡ erased_places input.erased → length places ≤ input.parity_count → b < 2048
-    → IsNone (completed_at input places b) → ((j : ℕ) → j < b → IsSome (completed_at input places j)) → Inconsistent b ≡ correct input
-inconsistent_answer input places b same few below none before =
+pub inconsistent_answer : (input : LayerInput) (places : List ℕ) (b : ℕ) → AreErased input places → b < 2048
+    → completed_at input places b ≡ None → ((j : ℕ) → j < b → IsSome (completed_at input places j)) → Inconsistent b ≡ correct input
+inconsistent_answer input places b are below none before =
     let NoneAt : List ℕ → Type 0 = λ l. IsNone (completed_at input l b) in
     let SomeBefore : List ℕ → Type 0 = λ l. (j : ℕ) → j < b → IsSome (completed_at input l j) in
-    sym (correct-inconsistent input b (omega (arith, ap length same)) below (subst NoneAt same none) (subst SomeBefore same before))
+    sym (correct-inconsistent input b (omega (arith, are.few, ap length are.erased)) below (subst NoneAt are.erased (ap is_some none)) (subst SomeBefore are.erased before))
 
-pub are_restored : (input : LayerInput) (places restored : List ℕ) → places ≡ erased_places input.erased → length places ≤ input.parity_count
-    → length restored ≡ 2048 * length places → ((j : ℕ) → j < 2048 → IsSome (completed_at input places j))
-    → ((b : ℕ) → b < 2048 → HoldsByte input places restored b) → AreRestored input restored
-are_restored input places restored same few room all holds =
+pub are_restored : (input : LayerInput) (places restored : List ℕ) → AreErased input places
+    → length restored ≡ 2048 * length places → ((b : ℕ) → b < 2048 → HoldsCodeword input places restored b) → AreRestored input restored
+are_restored input places restored are room held =
     let SomeAt : List ℕ → Type 0 = λ l. (j : ℕ) → j < 2048 → IsSome (completed_at input l j) in
     let HoldsAt : List ℕ → Type 0 = λ l. (b : ℕ) → b < 2048 → HoldsByte input l restored b in
     record {
-      few = omega (arith, ap length same);
-      room = omega (arith, ap length same);
-      all = subst SomeAt same all;
-      holds = subst HoldsAt same holds;
+      few = omega (arith, are.few, ap length are.erased);
+      room = omega (arith, ap length are.erased);
+      all = subst SomeAt are.erased (λ j h. ap is_some (held j h).completed);
+      holds = subst HoldsAt are.erased
+          (λ b h k l. (held b h).bytes k l ∙ ap (λ o. get_or (unwrap_or o []) (get_or places k 0) 0) (sym (held b h).completed));
     }
 
 pub bad_sum_answer : (input : LayerInput) (places restored sums : List ℕ) (p : ℕ) → places ≡ erased_places input.erased → sums ≡ input.sums → AreRestored input restored

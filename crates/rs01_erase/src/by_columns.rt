@@ -4,17 +4,12 @@
 //! all its words are codewords, these are the blocks. Where one is none, the plain call tells whether
 //! it is inconsistent.
 
-ghost use Rattle.std.specs.Prelude.{◌≡◌, ℕ, ◌+◌, ◌-◌, ◌*◌, ◌<◌, ◌≤◌, All, IfOk, IsSome, length};
-ghost use Rattle.std.specs.List.Sorted.{IsStrictlyIncreasing};
-ghost use Rattle.rs01_columns.specs.Layer.{SameOutside};
-ghost use Rattle.rs01_erase.specs.Completed.{AreCompleted, HoldsBlocks};
+ghost use Rattle.std.specs.Prelude.{◌≡◌, ℕ, ◌+◌, ◌-◌, ◌*◌, ◌<◌, ◌≤◌, All, IfOk, length};
+ghost use Rattle.rs01_erase.specs.Completed.{AreBlocksAt, AreCompleted};
 ghost use Rattle.rs01_erase.specs.Correcting.{correct};
-ghost use Rattle.rs01_erase.specs.LayerValue.{erased_places};
-ghost use Rattle.rs01_erase.specs.Restoring.{completed_at};
+ghost use Rattle.rs01_erase.specs.Restoring.{AreErased, AreFilled};
 
-use crate::correct::{
-    PlainCorrectTask, answer_restored, find_erased, is_inconsistent, restore_places,
-};
+use crate::correct::{PlainCorrectTask, answer_restored, complete, find_erased, restore_places};
 use rs01_columns::LayerSyndromes;
 use rs01_layers::{LayerInput, LayerOut, LayerTask};
 use std::alloc::{AllocError, Global};
@@ -88,10 +83,8 @@ fn correct_places(
     input: &LayerInput,
     erased: &[u8],
 ) -> Result<LayerOut, AllocError>
-    requires parity { length input.now.parity ≡ 2048 * input.now.parity_count }
     requires count { syndromes.now ≡ input.now.parity_count }
-    requires erased { erased.now ≡ erased_places input.now.erased }
-    requires few { length erased.now ≤ input.now.parity_count }
+    requires erased { AreErased input.now erased.now }
     ensures { IfOk result (λ out. out ≡ correct input.now) }
 {
     if erased.is_empty() {
@@ -109,10 +102,8 @@ fn fill_and_test(
     erased: &[u8],
     blocks: &mut [u8],
 ) -> Result<LayerOut, AllocError>
-    requires parity { length input.now.parity ≡ 2048 * input.now.parity_count }
     requires count { syndromes.now ≡ input.now.parity_count }
-    requires erased { erased.now ≡ erased_places input.now.erased }
-    requires few { length erased.now ≤ input.now.parity_count }
+    requires erased { AreErased input.now erased.now }
     requires same { blocks.old ≡ input.now.data_ }
     ensures { IfOk result (λ out. out ≡ correct input.now) }
 {
@@ -129,41 +120,17 @@ fn test_layer(
     erased: &[u8],
     blocks: &[u8],
 ) -> Result<LayerOut, AllocError>
-    requires parity { length input.now.parity ≡ 2048 * input.now.parity_count }
     requires count { syndromes.now ≡ input.now.parity_count }
-    requires erased { erased.now ≡ erased_places input.now.erased }
-    requires few { length erased.now ≤ input.now.parity_count }
-    requires blocks { length blocks.now ≡ 2048 * (255 - input.now.parity_count) }
-    requires kept { SameOutside input.now.data_ blocks.now erased.now }
+    requires erased { AreErased input.now erased.now }
+    requires filled { AreFilled input.now erased.now blocks.now }
     ensures { IfOk result (λ out. out ≡ correct input.now) }
 {
-    let count = count_completed(syndromes, alloc, input, erased, blocks)?;
+    let count = syndromes.count_codewords(alloc, blocks, input.parity.items())?;
     if count < 2048 {
         answer_stopped(alloc, input, erased, blocks, count)
     } else {
         answer_filled(alloc, input, erased, blocks)
     }
-}
-
-// How many codewords are completed to those of these blocks, before the first that may be not.
-fn count_completed(
-    syndromes: &LayerSyndromes,
-    alloc: Global,
-    input: &LayerInput,
-    erased: &[u8],
-    blocks: &[u8],
-) -> Result<u32, AllocError>
-    requires parity { length input.now.parity ≡ 2048 * input.now.parity_count }
-    requires count { syndromes.now ≡ input.now.parity_count }
-    requires erased { erased.now ≡ erased_places input.now.erased }
-    requires few { length erased.now ≤ input.now.parity_count }
-    requires blocks { length blocks.now ≡ 2048 * (255 - input.now.parity_count) }
-    requires kept { SameOutside input.now.data_ blocks.now erased.now }
-    ensures most { IfOk result (λ n. n ≤ 2048) }
-    ensures completed { IfOk result (λ n. AreCompleted input.now erased.now blocks.now n) }
-{
-    let count = syndromes.count_codewords(alloc, blocks, input.parity.items())?;
-    Ok(count)
 }
 
 // The answer where the codewords before this one are completed, and this one may be inconsistent.
@@ -174,17 +141,16 @@ fn answer_stopped(
     blocks: &[u8],
     codeword: u32,
 ) -> Result<LayerOut, AllocError>
-    requires parity { length input.now.parity ≡ 2048 * input.now.parity_count }
-    requires erased { erased.now ≡ erased_places input.now.erased }
-    requires few { length erased.now ≤ input.now.parity_count }
+    requires erased { AreErased input.now erased.now }
     requires codeword { codeword < 2048 }
     requires completed { AreCompleted input.now erased.now blocks.now codeword }
     ensures { IfOk result (λ out. out ≡ correct input.now) }
 {
-    if is_inconsistent(input, erased, codeword) {
-        return Ok(LayerOut::Inconsistent(codeword));
+    let mut word = [0u8; 255];
+    if complete(input, erased, codeword, &mut word) {
+        return restore_places(alloc, input, erased);
     }
-    restore_places(alloc, input, erased)
+    Ok(LayerOut::Inconsistent(codeword))
 }
 
 // The answer where all codewords are completed to those of these blocks.
@@ -194,30 +160,26 @@ fn answer_filled(
     erased: &[u8],
     blocks: &[u8],
 ) -> Result<LayerOut, AllocError>
-    requires erased { erased.now ≡ erased_places input.now.erased }
-    requires few { length erased.now ≤ input.now.parity_count }
+    requires erased { AreErased input.now erased.now }
     requires blocks { length blocks.now ≡ 2048 * (255 - input.now.parity_count) }
     requires completed { AreCompleted input.now erased.now blocks.now 2048 }
     ensures { IfOk result (λ out. out ≡ correct input.now) }
 {
-    let restored = blocks_at(alloc, blocks, erased, 255 - input.parity_count as usize)?;
+    let restored = blocks_at(alloc, blocks, erased)?;
     let out = answer_restored(alloc, input, erased, &restored)?;
     Ok(out)
 }
 
 // The blocks at these places, one after the other.
-fn blocks_at(alloc: Global, blocks: &[u8], erased: &[u8], k: usize) -> Result<Vec<u8>, AllocError>
-    requires k { k ≤ 255 }
+fn blocks_at(alloc: Global, blocks: &[u8], erased: &[u8]) -> Result<Vec<u8>, AllocError>
     requires few { length erased.now ≤ 100 }
-    requires below { All (λ p. p < k) erased.now }
-    requires blocks { length blocks.now ≡ 2048 * k }
+    requires within { All (λ p. 2048 * p + 2048 ≤ length blocks.now) erased.now }
     ensures size { IfOk result (λ list. length list.items ≡ 2048 * length erased.now) }
-    ensures bytes { IfOk result
-        (λ list. HoldsBlocks list.items blocks.now erased.now (length erased.now)) }
+    ensures bytes { IfOk result (λ list. AreBlocksAt list.items blocks.now erased.now) }
 {
     let mut list = Vec::with_capacity(alloc, 2048 * erased.len())?;
-    for i in 0..erased.len() {
-        let at = 2048 * erased[i] as usize;
+    for place in erased {
+        let at = 2048 * *place as usize;
         list.extend_from_slice(&blocks[at..at + 2048])?;
     }
     Ok(list)

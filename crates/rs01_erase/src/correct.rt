@@ -1,10 +1,9 @@
 //! Correcting a layer codeword by codeword: the plain program.
 
-ghost use Rattle.std.specs.Prelude.{◌≡◌, ◌≢◌, ℕ, ◌+◌, ◌-◌, ◌*◌, ◌<◌, ◌≤◌, ◌↔◌, All, IfOk, IfSome, IsNone, IsSome, IsTrue, length, slice_index, take};
-ghost use Rattle.std.specs.List.Sorted.{IsStrictlyIncreasing};
+ghost use Rattle.std.specs.Prelude.{◌≡◌, ℕ, ◌+◌, ◌-◌, ◌*◌, ◌<◌, ◌≤◌, All, IfOk, length, slice_index, take};
 ghost use Rattle.rs01_erase.specs.Correcting.{blocks_in, correct};
 ghost use Rattle.rs01_erase.specs.LayerValue.{erased_places, word_of};
-ghost use Rattle.rs01_erase.specs.Restoring.{HoldsByte, bad_sum_in, block_in, completed_at, placed_blocks};
+ghost use Rattle.rs01_erase.specs.Restoring.{AreErased, HoldsCodeword, HoldsCodewords, HoldsOthers, HoldsWord, bad_sum_in, block_in, completed_at, placed_blocks, word_if};
 
 use crate::restore::restore_codeword;
 use rs01_layers::{
@@ -62,90 +61,46 @@ fn gather(input: &LayerInput, codeword: u32, word: &mut [u8; 255])
     parity.copy_from_slice(&input.parity.items()[from..from + parity_count]);
 }
 
+/// Writes a codeword with its bytes at the erased places restored. False where it is inconsistent.
+pub fn complete(input: &LayerInput, erased: &[u8], codeword: u32, word: &mut [u8; 255]) -> bool
+    requires erased { AreErased input.now erased.now }
+    requires codeword { codeword < 2048 }
+    ensures { completed_at input.now erased.now codeword ≡ word_if result word.new }
+{
+    gather(input, codeword, word);
+    match restore_codeword(word, erased, input.parity_count) {
+        Ok(()) => true,
+        Err(_) => false,
+    }
+}
+
 // Stores a codeword's bytes at the erased places, each in the block of its place.
 fn store(word: &[u8; 255], erased: &[u8], codeword: u32, restored: &mut [u8])
     requires below { All (λ p. p < 255) erased.now }
     requires room { length restored.old ≡ 2048 * length erased.now }
     requires codeword { codeword < 2048 }
-    ensures here { (k : ℕ) → k < length erased.now → slice_index restored.new (2048 * k + codeword)
-        ≡ slice_index word.now (slice_index erased.now k) }
-    ensures others { (k b : ℕ) → b < 2048 → b ≢ codeword → slice_index restored.new (2048 * k + b)
-        ≡ slice_index restored.old (2048 * k + b) }
+    ensures here { HoldsWord word.now erased.now restored.new codeword }
+    ensures others { HoldsOthers restored.old restored.new codeword }
 {
     for (k, place) in erased.iter().enumerate() {
         restored[2048 * k + codeword as usize] = word[*place as usize];
     }
 }
 
-// Restores a codeword and stores its bytes at the erased places. False where it is inconsistent.
-fn restore_at(input: &LayerInput, erased: &[u8], codeword: u32, restored: &mut [u8]) -> bool
-    requires parity { length input.now.parity ≡ 2048 * input.now.parity_count }
-    requires rising { IsStrictlyIncreasing erased.now }
-    requires below { All (λ p. p < 255) erased.now }
-    requires few { length erased.now ≤ input.now.parity_count }
+// Restores and stores the codewords before the first that is inconsistent, and gives their number.
+fn restore_all(input: &LayerInput, erased: &[u8], restored: &mut [u8]) -> u32
+    requires erased { AreErased input.now erased.now }
     requires room { length restored.old ≡ 2048 * length erased.now }
-    requires codeword { codeword < 2048 }
-    ensures consistent { IsTrue result ↔ IsSome (completed_at input.now erased.now codeword) }
-    ensures here { IsTrue result → HoldsByte input.now erased.now restored.new codeword }
-    ensures others { (k b : ℕ) → b < 2048 → b ≢ codeword → slice_index restored.new (2048 * k + b)
-        ≡ slice_index restored.old (2048 * k + b) }
+    ensures { HoldsCodewords input.now erased.now restored.new result }
 {
     let mut word = [0u8; 255];
-    gather(input, codeword, &mut word);
-    match restore_codeword(&mut word, erased, input.parity_count) {
-        Ok(()) => {
-            store(&word, erased, codeword, restored);
-            true
+    for codeword in 0..2048u32 {
+        if !complete(input, erased, codeword, &mut word) {
+            return codeword;
         }
-        Err(_) => false,
+        store(&word, erased, codeword, restored);
     }
-}
-
-/// Whether no codeword has the bytes of this one at the places that are not erased.
-pub fn is_inconsistent(input: &LayerInput, erased: &[u8], codeword: u32) -> bool
-    requires parity { length input.now.parity ≡ 2048 * input.now.parity_count }
-    requires rising { IsStrictlyIncreasing erased.now }
-    requires below { All (λ p. p < 255) erased.now }
-    requires few { length erased.now ≤ input.now.parity_count }
-    requires codeword { codeword < 2048 }
-    ensures { IsTrue result ↔ IsNone (completed_at input.now erased.now codeword) }
-{
-    let mut word = [0u8; 255];
-    gather(input, codeword, &mut word);
-    match restore_codeword(&mut word, erased, input.parity_count) {
-        Ok(()) => false,
-        Err(_) => true,
-    }
-}
-
-// Restores the first codewords, up to one that is inconsistent, and gives that one.
-fn restore_all(
-    input: &LayerInput,
-    erased: &[u8],
-    codewords: u32,
-    restored: &mut [u8],
-) -> Option<u32>
-    requires parity { length input.now.parity ≡ 2048 * input.now.parity_count }
-    requires rising { IsStrictlyIncreasing erased.now }
-    requires below { All (λ p. p < 255) erased.now }
-    requires few { length erased.now ≤ input.now.parity_count }
-    requires room { length restored.old ≡ 2048 * length erased.now }
-    requires codewords { codewords ≤ 2048 }
-    ensures consistent { IsNone result → (b : ℕ) → b < codewords
-        → IsSome (completed_at input.now erased.now b) }
-    ensures restored { IsNone result → (b : ℕ) → b < codewords
-        → HoldsByte input.now erased.now restored.new b }
-    ensures inconsistent { IfSome result (λ found. (found < codewords)
-        × IsNone (completed_at input.now erased.now found)) }
-    ensures first { IfSome result (λ found. (b : ℕ) → b < found
-        → IsSome (completed_at input.now erased.now b)) }
-{
-    for codeword in 0..codewords {
-        if !restore_at(input, erased, codeword, restored) {
-            return Some(codeword);
-        }
-    }
-    None
+    2048
 }
 
 // One of the restored blocks.
@@ -201,14 +156,13 @@ fn restore_within(
     erased: &[u8],
     restored: &mut [u8],
 ) -> Result<LayerOut, AllocError>
-    requires parity { length input.now.parity ≡ 2048 * input.now.parity_count }
-    requires erased { erased.now ≡ erased_places input.now.erased }
-    requires few { length erased.now ≤ input.now.parity_count }
+    requires erased { AreErased input.now erased.now }
     requires room { length restored.old ≡ 2048 * length erased.now }
     ensures { IfOk result (λ out. out ≡ correct input.now) }
 {
-    if let Some(codeword) = restore_all(input, erased, 2048, restored) {
-        return Ok(LayerOut::Inconsistent(codeword));
+    let count = restore_all(input, erased, restored);
+    if count < 2048 {
+        return Ok(LayerOut::Inconsistent(count));
     }
     let out = answer_restored(alloc, input, erased, restored)?;
     Ok(out)
@@ -222,11 +176,9 @@ pub fn answer_restored(
     erased: &[u8],
     restored: &[u8],
 ) -> Result<LayerOut, AllocError>
-    requires erased { erased.now ≡ erased_places input.now.erased }
-    requires few { length erased.now ≤ input.now.parity_count }
+    requires erased { AreErased input.now erased.now }
     requires room { length restored.now ≡ 2048 * length erased.now }
-    requires completed { (b : ℕ) → b < 2048 → IsSome (completed_at input.now erased.now b) }
-    requires held { (b : ℕ) → b < 2048 → HoldsByte input.now erased.now restored.now b }
+    requires held { (b : ℕ) → b < 2048 → HoldsCodeword input.now erased.now restored.now b }
     ensures { IfOk result (λ out. out ≡ correct input.now) }
 {
     if let Some(place) = find_bad_sum(restored, erased, input.sums.items()) {
@@ -242,9 +194,7 @@ pub fn restore_places(
     input: &LayerInput,
     erased: &[u8],
 ) -> Result<LayerOut, AllocError>
-    requires parity { length input.now.parity ≡ 2048 * input.now.parity_count }
-    requires erased { erased.now ≡ erased_places input.now.erased }
-    requires few { length erased.now ≤ input.now.parity_count }
+    requires erased { AreErased input.now erased.now }
     ensures { IfOk result (λ out. out ≡ correct input.now) }
 {
     let mut restored = zeros(alloc, 2048 * erased.len())?;

@@ -1,6 +1,7 @@
 use Rattle.std.proofs.Common.{◌≡◌, ℕ, ◌+◌, ◌-◌, ◌*◌, ◌<◌, ◌≤◌, List, ◌++◌, length, take, drop, get_or, ◌∙◌, ap, arith, ⊎_elim}
 use Rattle.std.proofs.lemmas.Bool.{cases_lt}
 use Rattle.std.proofs.lemmas.List.{get_or_append_left, get_or-append_right, get_or-take, get_or-drop, length-take, length-drop}
+use Rattle.std.proofs.lemmas.List.Elements.{All-get_or}
 use Rattle.std.proofs.Math.ListN.{length-append}
 use Rattle.rs01_erase.specs.Completed.{HoldsBlocks}
 use Rattle.rs01_erase.proofs.by_columns.blocks_at.Goals as goal
@@ -27,16 +28,17 @@ block_more : (old blocks : List ℕ) (at n i : ℕ) → n ≡ 2048 → at + 2048
 block_more old blocks at n i wide room long =
     omega (arith, long, length-append old (take n (drop at blocks)), length-take n (drop at blocks), length-drop at blocks)
 
-pub loop-i-preserved : goal.loop-i-preserved
-loop-i-preserved c =
-    let at : ℕ = 2048 * get_or c.args.erased.now c.loop-i.i 0 in
-    let inside : get_or c.args.erased.now c.loop-i.i 0 < c.args.k = c.requires.below c.loop-i.i 0 (omega arith) in
+pub loop-place-preserved : goal.loop-place-preserved
+loop-place-preserved c =
+    let at : ℕ = 2048 * get_or c.args.erased.now c.loop-place.place-index 0 in
+    let inside : at + 2048 ≤ length c.args.blocks.now =
+    All-get_or (λ p. 2048 * p + 2048 ≤ length c.args.blocks.now) c.args.erased.now c.loop-place.place-index 0 (omega arith) c.requires.within in
     let wide : at + 2048 - at ≡ 2048 = omega arith in
     let put = c.in_ok-extend_from_slice.ensures.items in
     record {
-      long = ap length put ∙ block_more c.loop-i.list.items c.args.blocks.now at (at + 2048 - at) c.loop-i.i wide (omega arith) c.loop-i.invariant.long;
-      held = one_more c.loop-i.list.items _ c.args.blocks.now c.args.erased.now (take (at + 2048 - at) (drop at c.args.blocks.now)) c.loop-i.i
-          c.loop-i.invariant.long put
+      long = ap length put ∙ block_more c.loop-place.list.items c.args.blocks.now at (at + 2048 - at) c.loop-place.place-index wide (omega arith) c.loop-place.invariant.long;
+      held = one_more c.loop-place.list.items _ c.args.blocks.now c.args.erased.now (take (at + 2048 - at) (drop at c.args.blocks.now)) c.loop-place.place-index
+          c.loop-place.invariant.long put
           (λ b h. get_or-take (at + 2048 - at) (drop at c.args.blocks.now) b 0 (omega arith) ∙ get_or-drop at c.args.blocks.now b 0)
-          c.loop-i.invariant.held;
+          c.loop-place.invariant.held;
     }
