@@ -5,6 +5,7 @@ use Rattle.std.specs.List.Sorted.{IsStrictlyIncreasing}
 use Rattle.std.proofs.lemmas.Bool.{cases_lt, cases_eq}
 use Rattle.std.proofs.lemmas.Nat.{xor_comm}
 use Rattle.std.proofs.lemmas.List.{get_or-set_same, get_or-set_other, length-set, get_or-map, length-map}
+use Rattle.std.proofs.lemmas.List.Elements.{All-get_or}
 use Rattle.std.proofs.lemmas.Grind.{same_number_lists}
 use Rattle.std.specs.Int.Bits.{xor_assoc, xor_zero_r}
 use Rattle.rs01_gf256.specs.Field.{times, power}
@@ -14,6 +15,7 @@ use Rattle.rs01_poly.specs.Polynomial.{value_at}
 use Rattle.rs01_poly.specs.Code.{root, AgreeOutside}
 use Rattle.rs01_poly.proofs.Values.{AllBytes, leading_zero, value_at-cons}
 use Rattle.rs01_poly.proofs.Division.{root_below}
+use Rattle.rs01_erase.specs.Completion.{ArePlaces}
 use Rattle.rs01_erase.specs.PowerSums.{locator, weighted, power_sum, Differ}
 
 -- a power of an element that is not zero is not zero
@@ -99,6 +101,10 @@ few_places (p ∷ places) n rise below =
     let last : length places ≤ get_or (p ∷ places) (length places) 0 = at_least (p ∷ places) (length places) rise (omega arith) in
     let high : get_or (p ∷ places) (length places) 0 < n = below (length places) (omega arith) in
     omega arith
+
+-- and at most 255 are places of a codeword
+pub at_most_255 : (places : List ℕ) → ArePlaces places → length places ≤ 255
+at_most_255 places are = few_places places 255 (rises places are.rising) (λ k h. All-get_or (λ p. p < 255) places k 0 h are.below)
 
 -- c agrees with the word in which the first of these places has the byte of c
 pub later_outside : (c u places : List ℕ) (p v : ℕ) → p < length u → v ≡ get_or c p 0 → AgreeOutside c u (p ∷ places)

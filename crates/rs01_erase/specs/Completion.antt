@@ -1,9 +1,10 @@
 -- Which codeword a word stands for, some of whose places are erased.
-use Rattle.std.specs.Prelude.{ℕ, ◌==◌, ◌&&◌, ◌^◌, if◌then◌else◌, Bool, nat_lt, List, [], ◌∷◌, length, slice_set, Option, Some, None}
+use Rattle.std.specs.Prelude.{◌≡◌, ℕ, ◌<◌, ◌≤◌, ◌==◌, ◌&&◌, ◌^◌, if◌then◌else◌, Bool, nat_lt, List, [], ◌∷◌, All, length, slice_set, Option, Some, None}
 use Rattle.std.specs.List.{list_all, range_with_len}
+use Rattle.std.specs.List.Sorted.{IsStrictlyIncreasing}
 use Rattle.std.specs.Option.{option_or}
 use Rattle.rs01_poly.specs.Polynomial.{value_at}
-use Rattle.rs01_poly.specs.Code.{root}
+use Rattle.rs01_poly.specs.Code.{AgreeOutside, IsCodeword, root}
 
 -- whether c is a codeword with r parity bytes
 unfoldable pub is_codeword : List ℕ → ℕ → Bool
@@ -24,3 +25,22 @@ first_found f (v ∷ vs) = option_or (f v) (first_found f vs)
 unfoldable pub completion : List ℕ → List ℕ → ℕ → Option (List ℕ)
 completion w [] r = if is_codeword w r then Some w else None
 completion w (p ∷ places) r = first_found (λ v. completion (slice_set w p v) places r) byte_values
+
+-- places of a codeword, counted from 0, that rise
+pub record ArePlaces (places : List ℕ) : Type 0 where
+  pub rising : IsStrictlyIncreasing places
+  pub below : All (λ p. p < 255) places
+
+-- there are n of these places, which is more than r
+abbrev pub Many : List ℕ → ℕ → ℕ → Type 0
+Many places r n = (r < length places) × (n ≡ length places)
+
+-- there are at most r of these places, and no codeword with r parity bytes has the word's bytes at the others
+abbrev pub Clash : List ℕ → List ℕ → ℕ → Type 0
+Clash word places r = (length places ≤ r) × (completion word places r ≡ None)
+
+-- the new word is the old one's completion: the codeword that has its bytes outside of these places
+pub record IsRestored (old new places : List ℕ) (r : ℕ) : Type 0 where
+  pub completed : completion old places r ≡ Some new
+  pub codeword : IsCodeword new r
+  pub kept : AgreeOutside new old places

@@ -1,12 +1,14 @@
 -- What correcting gives of a layer's input, and of which parts of the input that says nothing.
-use Rattle.std.specs.Prelude.{◌≡◌, ℕ, ◌-◌, ◌*◌, ◌^◌, ◌<◌, Bool, true, false, List, [], All, length, take, drop, slice_index, slice_index_or}
+use Rattle.std.specs.Prelude.{◌≡◌, ℕ, ◌-◌, ◌*◌, ◌^◌, ◌<◌, Bool, true, false, List, [], All, length, map, take, drop, slice_index, slice_index_or}
 use Rattle.rs01_layers.specs.Blocks.{blocks_of}
 use Rattle.rs01_layers.specs.Layer.{column}
 use Rattle.rs01_layers.specs.declared.input.LayerInput.{LayerInput}
+use Rattle.rs01_layers.specs.declared.lists.Placed.{Placed}
 use Rattle.rs01_layers.specs.declared.task.LayerOut.{LayerOut}
+use Rattle.rs01_layers.specs.declared.task.LayerOut.TheVariants.{Restored}
 use Rattle.rs01_poly.specs.Code.{encode}
 use Rattle.rs01_sums.specs.Crc.{crc}
-use Rattle.rs01_erase.specs.LayerValue.{correct_of}
+use Rattle.rs01_erase.specs.LayerValue.{correct_of, erased_places, placed}
 
 -- the blocks of an input, by place
 abbrev pub blocks_in : LayerInput → List (List ℕ)
@@ -48,3 +50,17 @@ pub record IsIntact (original blocks : List (List ℕ)) (flags : List Bool) (sum
   pub parity_is : (b : ℕ) → b < 2048 → take r (drop (b * r) parity) ≡ encode (column original b)
   pub held : AgreeWhereHeld flags blocks original
   pub sums_are : (p : ℕ) → slice_index_or flags p false ≡ true → slice_index sums p ≡ crc (slice_index_or original p [])
+
+-- so is the input, with these as the original blocks
+abbrev pub IsIntactInput : List (List ℕ) → LayerInput → Type 0
+IsIntactInput original input = IsIntact original (blocks_in input) input.erased input.sums input.parity input.parity_count
+
+-- what correcting gives where it restores the blocks of these places to the original ones
+abbrev pub restored_to : List (List ℕ) → List ℕ → LayerOut
+restored_to original places = Restored (placed (λ p. slice_index_or original p []) places)
+
+-- these are exactly the erased places of the input, each with a block that has its recorded checksum
+pub record FitErased (input : LayerInput) (list : List Placed) : Type 0 where
+  pub places : map (λ one. one.place) list ≡ erased_places input.erased
+  pub blocks : All (λ one. IsBlock one.block) list
+  pub sums : All (λ one. crc one.block ≡ slice_index input.sums one.place) list

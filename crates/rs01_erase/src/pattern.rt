@@ -1,10 +1,8 @@
 //! Restoring many codewords with the same erased places.
 
-ghost use Rattle.std.specs.Prelude.{◌≡◌, ◌<◌, ◌≤◌, ◌↔◌, ℕ, All, Err, IfOk, IsErr, IsOk, None, Some, false, length, map};
-ghost use Rattle.std.specs.List.Sorted.{IsStrictlyIncreasing};
-ghost use Rattle.rs01_poly.specs.Code.{AgreeOutside, IsCodeword};
-ghost use Rattle.rs01_erase.specs.Completion.{completion};
-ghost use Rattle.rs01_erase.specs.Pattern.{PatternOf};
+ghost use Rattle.std.specs.Prelude.{◌≡◌, ◌<◌, ◌≤◌, ◌↔◌, ℕ, All, Err, IfOk, IsErr, IsOk, None, length, map};
+ghost use Rattle.rs01_erase.specs.Completion.{ArePlaces, Many};
+ghost use Rattle.rs01_erase.specs.Pattern.{IsRestoredBy, PatternOf, completed_by};
 ghost use Rattle.rs01_erase.specs.PowerSums.{locator};
 
 use crate::restore::{locate, restore_with};
@@ -66,8 +64,7 @@ fn locators_of(alloc: Global, erased: &[u8]) -> Result<Vec<u8>, AllocError>
 
 // The pattern of places that are not too many.
 fn pattern_of(alloc: Global, erased: &[u8], r: u32) -> Result<Pattern, AllocError>
-    requires rising { IsStrictlyIncreasing erased.now }
-    requires below { All (λ p. p < 255) erased.now }
+    requires places { ArePlaces erased.now }
     requires most { r ≤ 100 }
     requires few { length erased.now ≤ r }
     ensures { IfOk result (λ pattern. pattern ≡ record { places = erased.now; parity_count = r }) }
@@ -84,17 +81,14 @@ fn pattern_of(alloc: Global, erased: &[u8], r: u32) -> Result<Pattern, AllocErro
 impl Pattern {
     /// The pattern of these erased places, for codewords with `r` parity bytes.
     ///
-    /// The places count from 0 and rise. The first refusal that fits is told: `Beyond` where more than
-    /// `r` places are erased, and `OutOfMemory`.
+    /// The places count from 0 and rise. The first refusal that fits is told: `Beyond` where more
+    /// than `r` places are erased, and `OutOfMemory`.
     pub fn new(alloc: Global, erased: &[u8], r: u32) -> Result<Pattern, PatternRefusal>
-        requires rising { IsStrictlyIncreasing erased.now }
-        requires below { All (λ p. p < 255) erased.now }
+        requires places { ArePlaces erased.now }
         requires least { 8 ≤ r }
         requires most { r ≤ 100 }
-        ensures beyond { (n : ℕ) → (result
-            ≡ Err (PatternRefusal.Beyond n)) ↔ ((r < length erased.now) × (n ≡ length erased.now)) }
-        ensures made { IfOk result (λ pattern. pattern
-            ≡ record { places = erased.now; parity_count = r }) }
+        ensures beyond { (n : ℕ) → (result ≡ Err (PatternRefusal.Beyond n)) ↔ Many erased.now r n }
+        ensures made { IfOk result (λ p. p ≡ record { places = erased.now; parity_count = r }) }
     {
         let count = erased.len();
         if count > r as usize {
@@ -106,15 +100,11 @@ impl Pattern {
         }
     }
 
-    /// Restores the bytes of a word at the erased places: afterwards the word is the one codeword that
-    /// has the same bytes at all other places. Where there is none, the word stays as it was.
+    /// Restores the bytes of a word at the erased places: afterwards the word is the one codeword
+    /// that has the same bytes at all other places. Where there is none, the word stays as it was.
     pub fn restore(&self, word: &mut [u8; 255]) -> Result<(), Disagree>
-        ensures disagree { IsErr result ↔
-            (completion word.old self.now.places self.now.parity_count ≡ None) }
-        ensures restored { IsOk result → completion word.old self.now.places self.now.parity_count
-            ≡ Some word.new }
-        ensures codeword { IsOk result → IsCodeword word.new self.now.parity_count }
-        ensures kept { IsOk result → AgreeOutside word.new word.old self.now.places }
+        ensures disagree { IsErr result ↔ (completed_by self.now word.old ≡ None) }
+        ensures restored { IsOk result → IsRestoredBy self.now word.old word.new }
         ensures unchanged { IsErr result → word.new ≡ word.old }
     {
         let mut sums = [0u8; 100];

@@ -1,8 +1,8 @@
 //! Values from their power sums.
 
-ghost use Rattle.std.specs.Prelude.{◌≡◌, ◌≢◌, ℕ, ◌+◌, ◌-◌, ◌^◌, ◌<◌, ◌≤◌, ◌↔◌, List, ◌∷◌, All, IsTrue, bit_xor, length, slice_index, take};
+ghost use Rattle.std.specs.Prelude.{◌≡◌, ◌≢◌, ℕ, ◌+◌, ◌-◌, ◌<◌, ◌≤◌, ◌↔◌, List, ◌∷◌, All, IsTrue, bit_xor, length, slice_index};
 ghost use Rattle.rs01_gf256.specs.Field.{times};
-ghost use Rattle.rs01_erase.specs.PowerSums.{ArePowerSums, Differ, power_sum};
+ghost use Rattle.rs01_erase.specs.PowerSums.{AreQuotients, AreSolvedBy, AreValues, Differ, power_sum};
 
 use rs01_gf256::Gf;
 
@@ -24,9 +24,7 @@ fn eliminate(first: u8, sums: &mut [u8], x: Gf)
 fn divide(values: &mut [u8], locators: &[u8], x: Gf) -> u8
     requires same { length values.old ≡ length locators.now }
     requires apart { (k : ℕ) → k < length locators.now → slice_index locators.now k ≢ x.0 }
-    ensures quotients { (k : ℕ) → k < length locators.now
-        → times (slice_index values.new k) (bit_xor (slice_index locators.now k) x.0)
-        ≡ slice_index values.old k }
+    ensures quotients { AreQuotients values.new values.old locators.now x.0 }
     ensures sum { result ≡ power_sum 0 values.new locators.now }
 {
     let mut total = 0;
@@ -50,11 +48,8 @@ fn all_zero(sums: &[u8]) -> bool
 pub fn solve(sums: &mut [u8], locators: &[u8]) -> bool
     requires enough { length locators.now ≤ length sums.old }
     requires differ { Differ locators.now }
-    ensures solved { IsTrue result
-        → ArePowerSums sums.old (take (length locators.now) sums.new) locators.now }
-    ensures found { (values : List ℕ) → length values ≡ length locators.now → All
-        (λ v. v < 2 ^ 8) values
-        → ArePowerSums sums.old values locators.now → IsTrue result }
+    ensures solved { IsTrue result → AreSolvedBy sums.old sums.new locators.now }
+    ensures found { (values : List ℕ) → AreValues sums.old values locators.now → IsTrue result }
 {
     match locators {
         [] => all_zero(sums),

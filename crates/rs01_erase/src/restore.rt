@@ -1,10 +1,10 @@
 //! Restoring one codeword.
 
-ghost use Rattle.std.specs.Prelude.{◌≡◌, ◌≢◌, ℕ, ◌+◌, ◌-◌, ◌*◌, ◌^◌, ◌<◌, ◌≤◌, ◌↔◌, All, Some, None, IsOk, IsErr, IsTrue, false, length, map, slice_index, take};
-ghost use Rattle.std.specs.List.Sorted.{IsStrictlyIncreasing};
-ghost use Rattle.rs01_poly.specs.Code.{AgreeOutside, IsCodeword, root};
+ghost use Rattle.std.specs.Prelude.{◌≡◌, ◌≢◌, ℕ, ◌+◌, ◌-◌, ◌*◌, ◌^◌, ◌<◌, ◌≤◌, ◌↔◌, All, None, IsOk, IsErr, IsTrue, false, length, map, slice_index};
+ghost use Rattle.rs01_poly.specs.Code.{AgreeOutside, root};
 ghost use Rattle.rs01_poly.specs.Polynomial.{value_at};
-ghost use Rattle.rs01_erase.specs.Completion.{completion};
+ghost use Rattle.rs01_erase.specs.Completion.{ArePlaces, Many, Clash, IsRestored, completion};
+ghost use Rattle.rs01_erase.specs.Pattern.{IsPattern};
 ghost use Rattle.rs01_erase.specs.PowerSums.{locator, weighted};
 
 use crate::power_sums::solve;
@@ -58,11 +58,9 @@ pub fn locate(erased: &[u8], locators: &mut [u8])
 }
 
 // Writes at each of these places its value divided by the 112th power of its locator.
-fn put(word: &mut [u8], erased: &[u8], values: &[u8])
+fn put(word: &mut [u8; 255], erased: &[u8], values: &[u8])
     requires same { length values.now ≡ length erased.now }
-    requires rising { IsStrictlyIncreasing erased.now }
-    requires within { All (λ p. p < length word.old) erased.now }
-    requires below { All (λ p. p < 255) erased.now }
+    requires places { ArePlaces erased.now }
     ensures values { weighted word.new erased.now ≡ values.now }
     ensures others { AgreeOutside word.new word.old erased.now }
     ensures bytes { All (λ b. b < 2 ^ 8) word.new }
@@ -76,13 +74,8 @@ fn put(word: &mut [u8], erased: &[u8], values: &[u8])
 /// Restores the word, or gives false and leaves it, by the locators of the places and with room for
 /// the power sums.
 pub fn restore_with(word: &mut [u8; 255], erased: &[u8], locators: &[u8], sums: &mut [u8]) -> bool
-    requires rising { IsStrictlyIncreasing erased.now }
-    requires below { All (λ p. p < 255) erased.now }
-    requires enough { length erased.now ≤ length sums.old }
-    requires few { length sums.old ≤ 100 }
-    requires located { locators.now ≡ map locator erased.now }
-    ensures restored { IsTrue result → completion word.old erased.now (length sums.old)
-        ≡ Some word.new }
+    requires pattern { IsPattern erased.now (length sums.old) locators.now }
+    ensures restored { IsTrue result → IsRestored word.old word.new erased.now (length sums.old) }
     ensures none { result ≡ false → completion word.old erased.now (length sums.old) ≡ None }
     ensures unchanged { result ≡ false → word.new ≡ word.old }
 {
@@ -97,22 +90,6 @@ pub fn restore_with(word: &mut [u8; 255], erased: &[u8], locators: &[u8], sums: 
     true
 }
 
-// The same, with room for the locators.
-fn restore_within(word: &mut [u8; 255], erased: &[u8], sums: &mut [u8], locators: &mut [u8]) -> bool
-    requires rising { IsStrictlyIncreasing erased.now }
-    requires below { All (λ p. p < 255) erased.now }
-    requires enough { length erased.now ≤ length sums.old }
-    requires few { length sums.old ≤ 100 }
-    requires same { length locators.old ≡ length erased.now }
-    ensures restored { IsTrue result → completion word.old erased.now (length sums.old)
-        ≡ Some word.new }
-    ensures none { result ≡ false → completion word.old erased.now (length sums.old) ≡ None }
-    ensures unchanged { result ≡ false → word.new ≡ word.old }
-{
-    locate(erased, locators);
-    restore_with(word, erased, locators, sums)
-}
-
 /// Restores the bytes of a word at the erased places: afterwards the word is the one codeword with
 /// `r` parity bytes that has the same bytes at all other places.
 ///
@@ -120,17 +97,12 @@ fn restore_within(word: &mut [u8; 255], erased: &[u8], sums: &mut [u8], locators
 /// told: `Beyond` where more than `r` places are erased, and `Inconsistent` where no codeword has
 /// the bytes at the other places.
 pub fn restore_codeword(word: &mut [u8; 255], erased: &[u8], r: u32) -> Result<(), EraseRefusal>
-    requires rising { IsStrictlyIncreasing erased.now }
-    requires below { All (λ p. p < 255) erased.now }
+    requires places { ArePlaces erased.now }
     requires least { 8 ≤ r }
     requires most { r ≤ 100 }
-    ensures beyond { (n : ℕ) → (result ≡ Err (EraseRefusal.Beyond n)) ↔ ((r < length erased.now)
-        × (n ≡ length erased.now)) }
-    ensures inconsistent { (result ≡ Err EraseRefusal.Inconsistent) ↔ ((length erased.now ≤ r)
-        × (completion word.old erased.now r ≡ None)) }
-    ensures restored { IsOk result → completion word.old erased.now r ≡ Some word.new }
-    ensures codeword { IsOk result → IsCodeword word.new r }
-    ensures kept { IsOk result → AgreeOutside word.new word.old erased.now }
+    ensures beyond { (n : ℕ) → (result ≡ Err (EraseRefusal.Beyond n)) ↔ Many erased.now r n }
+    ensures inconsistent { (result ≡ Err EraseRefusal.Inconsistent) ↔ Clash word.old erased.now r }
+    ensures restored { IsOk result → IsRestored word.old word.new erased.now r }
     ensures unchanged { IsErr result → word.new ≡ word.old }
 {
     let count = erased.len();
@@ -139,12 +111,8 @@ pub fn restore_codeword(word: &mut [u8; 255], erased: &[u8], r: u32) -> Result<(
     }
     let mut sums = [0u8; 100];
     let mut locators = [0u8; 100];
-    if restore_within(
-        word,
-        erased,
-        &mut sums[..r as usize],
-        &mut locators[..count],
-    ) {
+    locate(erased, &mut locators[..count]);
+    if restore_with(word, erased, &locators[..count], &mut sums[..r as usize]) {
         Ok(())
     } else {
         Err(EraseRefusal::Inconsistent)

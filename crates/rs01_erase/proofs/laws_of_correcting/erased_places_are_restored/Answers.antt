@@ -11,11 +11,11 @@ restored_list : (input : LayerInput) (list : List Placed) → correct input ≡ 
 unfolding correct
 restored_list input list e = correct_of-restored (blocks_in input) input.erased input.sums input.parity input.parity_count list e
 
-pub returns-clause-places : goal.returns-clause-places
-returns-clause-places c = λ list e. IsRestored-places _ _ _ _ _ list (restored_list c.args.input.now list e)
-
-pub returns-clause-blocks : goal.returns-clause-blocks
-returns-clause-blocks c = λ list e. IsRestored-blocks _ _ _ _ _ list (restored_list c.args.input.now list e)
-
-pub returns-clause-sums : goal.returns-clause-sums
-returns-clause-sums c = λ list e. IsRestored-sums _ _ _ _ _ list (restored_list c.args.input.now list e)
+pub returns : goal.returns
+returns c = λ list e.
+    let done = restored_list c.args.input.now list e in
+    record {
+      places = IsRestored-places _ _ _ _ _ list done;
+      blocks = IsRestored-blocks _ _ _ _ _ list done;
+      sums = IsRestored-sums _ _ _ _ _ list done;
+    }

@@ -4,7 +4,7 @@ use Rattle.std.proofs.lemmas.List.Elements.{All-get_or, All-from_get_or}
 use Rattle.std.proofs.Math.Seq.{take-append_seam}
 use Rattle.rs01_gf256.specs.Field.{times}
 use Rattle.rs01_poly.proofs.Values.{AllBytes}
-use Rattle.rs01_erase.specs.PowerSums.{power_sum, ArePowerSums, Differ}
+use Rattle.rs01_erase.specs.PowerSums.{power_sum, ArePowerSums, AreValues, Differ}
 use Rattle.rs01_erase.proofs.Elimination.{empty_sum, products, length-products, AllBytes-products, still_sums, put_back, bytes_of_all}
 use Rattle.rs01_erase.proofs.power_sums.+solve.Goals as goal
 
@@ -46,21 +46,23 @@ apart locs others e differ k h same =
 without : (sums locs others head rest less : List ℕ) (b : Bool) → locs ≡ get_or locs 0 0 ∷ others → sums ≡ head ++ rest → length head ≡ 1
     → length less ≡ length rest → AllBytes locs
     → ((j : ℕ) → j < length rest → get_or less j 0 ≡ bit_xor (get_or rest j 0) (times (get_or locs 0 0) (get_or (get_or head 0 0 ∷ rest) j 0)))
-    → ((vs : List ℕ) → length vs ≡ length others → All (λ v. v < 2 ^ 8) vs → ArePowerSums less vs others → IsTrue b)
-    → (vs : List ℕ) → length vs ≡ length locs → All (λ v. v < 2 ^ 8) vs → ArePowerSums sums vs locs → IsTrue b
-without sums locs others head rest less b el es one same hl by found [] lv hv eqs =
-    let long : length locs ≡ suc (length others) = ap length el in absurd (omega arith)
-without sums locs others head rest less b el es one same hl by found (v ∷ zs) lv hv eqs =
+    → ((vs : List ℕ) → AreValues less vs others → IsTrue b)
+    → (vs : List ℕ) → AreValues sums vs locs → IsTrue b
+without sums locs others head rest less b el es one same hl by found [] given =
+    let long : length locs ≡ suc (length others) = ap length el in absurd (omega (arith, given.count))
+without sums locs others head rest less b el es one same hl by found (v ∷ zs) given =
     let x = get_or locs 0 0 in
     let long : length locs ≡ suc (length others) = ap length el in
     let some : length sums ≡ suc (length rest) = ap length (joined sums head rest es one) in
-    let bytes : AllBytes (v ∷ zs) = bytes_of_all (v ∷ zs) hv in
+    let bytes : AllBytes (v ∷ zs) = bytes_of_all (v ∷ zs) given.bytes in
     let all : AllBytes (x ∷ others) = bytes_along locs (x ∷ others) el hl in
-    let lz : length zs ≡ length others = omega arith in
-    found (products x zs others) (length-products x zs others lz)
-    (All-from_get_or (λ v. v < 2 ^ 8) (products x zs others) 0 (λ k h. AllBytes-products x zs others (hl 0) (λ j. bytes (suc j)) (λ j. all (suc j)) k))
-    (still_sums x (get_or head 0 0) v rest less zs others (hl 0) (bytes 0) (λ j. bytes (suc j)) (λ j. all (suc j)) lz same by
-    (λ j h. sym (ap (λ l. get_or l j 0) (joined sums head rest es one)) ∙ eqs j (omega arith) ∙ ap (power_sum j (v ∷ zs)) el))
+    let lz : length zs ≡ length others = omega (arith, given.count) in
+    found (products x zs others) (record {
+      count = length-products x zs others lz;
+      bytes = (All-from_get_or (λ v. v < 2 ^ 8) (products x zs others) 0 (λ k h. AllBytes-products x zs others (hl 0) (λ j. bytes (suc j)) (λ j. all (suc j)) k));
+      sums_are = (still_sums x (get_or head 0 0) v rest less zs others (hl 0) (bytes 0) (λ j. bytes (suc j)) (λ j. all (suc j)) lz same by
+          (λ j h. sym (ap (λ l. get_or l j 0) (joined sums head rest es one)) ∙ given.sums_are j (omega arith) ∙ ap (power_sum j (v ∷ zs)) el));
+    })
 
 -- the values of the sums without the first locator give the values of all
 with_first : (sums locs others head rest less ys zs tail : List ℕ) (total : ℕ) → locs ≡ get_or locs 0 0 ∷ others → sums ≡ head ++ rest → length head ≡ 1
@@ -101,8 +103,8 @@ pub returns-in-empty-clause-solved : goal.returns-in-empty-clause-solved
 returns-in-empty-clause-solved t c = λ yes. empty_solved c.args.sums.now c.args.locators.now c.in-empty.len_below (c.all_zero.ensures.0 yes)
 
 pub returns-in-empty-clause-found : goal.returns-in-empty-clause-found
-returns-in-empty-clause-found t c = λ values long bytes eqs.
-    c.all_zero.ensures.1 (empty_zero c.args.sums.now c.args.locators.now values c.in-empty.len_below long eqs)
+returns-in-empty-clause-found t c = λ values given.
+    c.all_zero.ensures.1 (empty_zero c.args.sums.now c.args.locators.now values c.in-empty.len_below given.count given.sums_are)
 
 pub divide-requires-clause-apart : goal.divide-requires-clause-apart
 divide-requires-clause-apart t c =

@@ -54,10 +54,10 @@ pub loop-k-preserved : goal.loop-k-preserved
 loop-k-preserved c =
     let k = c.loop-k.k in
     let p = get_or c.args.erased.now k 0 in
-    let inside : p < length c.args.word.now = All-get_or (λ q. q < length c.args.word.now) c.args.erased.now k 0 (omega arith) c.requires.within in
+    let inside : p < length c.args.word.now = omega (arith, All-get_or (λ q. q < 255) c.args.erased.now k 0 (omega arith) c.requires.places.below) in
     record {
       done = one_more c.loop-k.word c.args.erased.now c.args.values.now k _ c.pow_root-weight.result.0 c.inv.result.0 (omega arith) c.requires.same (omega arith)
-          (rises c.args.erased.now c.requires.rising) ((c.type_inv.values k).fits) (omega arith) (omega arith)
+          (rises c.args.erased.now c.requires.places.rising) ((c.type_inv.values k).fits) (omega arith) (omega arith)
           (weight p c.pow_root-weight.result.0 (c.pow_root-weight.ensures ∙ ap (λ n. power 2 (11 * ((254 - n) * 112))) c.from.ensures))
           c.inv.ensures c.mul.ensures c.loop-k.invariant.done;
       bytes = AllBytes-set c.loop-k.word p c.mul.result.0 (omega arith) c.loop-k.invariant.bytes;

@@ -8,11 +8,11 @@ use Rattle.rs01_gf256.proofs.Logarithms.{times_below, power_below}
 use Rattle.rs01_poly.specs.Polynomial.{value_at}
 use Rattle.rs01_poly.specs.Code.{root, IsCodeword, AgreeOutside}
 use Rattle.rs01_poly.proofs.Values.{AllBytes}
-use Rattle.rs01_erase.specs.Completion.{completion}
-use Rattle.rs01_erase.specs.PowerSums.{locator, weighted, power_sum, ArePowerSums}
+use Rattle.rs01_erase.specs.Completion.{IsRestored, completion}
+use Rattle.rs01_erase.specs.PowerSums.{locator, weighted, power_sum, ArePowerSums, AreValues}
 use Rattle.rs01_erase.proofs.Elimination.{bytes_of_all, moved}
 use Rattle.rs01_erase.proofs.Places.{rises, locator_below, locators_differ, value_by_places}
-use Rattle.rs01_erase.proofs.Completions.{completion-is, completion-none}
+use Rattle.rs01_erase.proofs.Completions.{completion-completes, completion-is, completion-none}
 use Rattle.rs01_erase.proofs.restore.restore_with.Goals as goal
 
 below_255 : (places : List ℕ) → All (λ p. p < 255) places → (k : ℕ) → k < length places → get_or places k 0 < 255
@@ -48,15 +48,18 @@ length-weighted c places = length-map places (λ p. times (get_or c p 0) (power 
 not_solved : (w u places sums locs : List ℕ) (r : ℕ) → length u ≡ 255 → AllBytes u → IsStrictlyIncreasing places → All (λ p. p < 255) places
     → All (λ p. get_or u p 0 ≡ 0) places → AgreeOutside u w places → locs ≡ map locator places → length sums ≡ r
     → ((j : ℕ) → j < length sums → get_or sums j 0 ≡ value_at u (root j))
-    → ((vs : List ℕ) → length vs ≡ length locs → All (λ v. v < 2 ^ 8) vs → ArePowerSums sums vs locs → IsTrue false)
+    → ((vs : List ℕ) → AreValues sums vs locs → IsTrue false)
     → completion w places r ≡ None
 not_solved w u places sums locs r lu hu rising below zeros agree located long values found =
     completion-none w places r
     (λ c code same.
     let here : IsCodeword c (length sums) = rw long code in
     let count : length (weighted c places) ≡ length locs = length-weighted c places ∙ sym (length-map places locator) ∙ ap length (sym located) in
-    let never = found (weighted c places) count (weighted_bytes c places (bytes_of_all c code.bytes))
-    (sums_of_codeword c u places sums locs lu hu rising below zeros located values here (λ p out. same p out ∙ sym (agree p out))) in
+    let never = found (weighted c places) (record {
+      count = count;
+      bytes = weighted_bytes c places (bytes_of_all c code.bytes);
+      sums_are = sums_of_codeword c u places sums locs lu hu rising below zeros located values here (λ p out. same p out ∙ sym (agree p out));
+    }) in
     absurd (let contradiction : ⊥ = cc never in contradiction))
 
 solved : (w u c places sums new locs : List ℕ) (r : ℕ) → length w ≡ 255 → length u ≡ 255 → length c ≡ 255 → AllBytes u → All (λ b. b < 2 ^ 8) c
@@ -81,20 +84,24 @@ solved w u c places sums new locs r lw lu lc hu hc rising below few zeros agree 
     })
     (λ p out. put p out ∙ agree p out)
 
+restored : (old new places : List ℕ) (r : ℕ) → completion old places r ≡ Some new → IsRestored old new places r
+restored old new places r done =
+    let parts = completion-completes old places r new done in record { completed = done; codeword = parts.code; kept = parts.agree }
+
 pub solve-requires-clause-differ : goal.solve-requires-clause-differ
 solve-requires-clause-differ c =
-    rw (c.requires.located) (locators_differ c.args.erased.now (rises c.args.erased.now c.requires.rising) (below_255 c.args.erased.now c.requires.below))
+    rw (c.requires.pattern.located) (locators_differ c.args.erased.now (rises c.args.erased.now c.requires.pattern.places_are.rising) (below_255 c.args.erased.now c.requires.pattern.places_are.below))
 
 pub returns-then-not-solve-clause-none : goal.returns-then-not-solve-clause-none
 returns-then-not-solve-clause-none c = λ yes.
     not_solved c.args.word.now c.clear.new.word c.args.erased.now c.values_at_roots.new.values c.args.locators.now _ (omega arith)
-    (bytes_of_all c.clear.new.word c.clear.ensures.bytes) c.requires.rising c.requires.below c.clear.ensures.cleared c.clear.ensures.others
-    c.requires.located (omega arith) (λ j h. c.values_at_roots.ensures j (omega arith)) c.if-not-solve.ensures.found
+    (bytes_of_all c.clear.new.word c.clear.ensures.bytes) c.requires.pattern.places_are.rising c.requires.pattern.places_are.below c.clear.ensures.cleared c.clear.ensures.others
+    c.requires.pattern.located (omega arith) (λ j h. c.values_at_roots.ensures j (omega arith)) c.if-not-solve.ensures.found
 
 pub returns-clause-restored : goal.returns-clause-restored
 returns-clause-restored c = λ yes.
-    solved c.args.word.now c.clear.new.word c.put.new.word c.args.erased.now c.values_at_roots.new.values c.solve.new.sums c.args.locators.now _
+    restored _ _ _ _ (solved c.args.word.now c.clear.new.word c.put.new.word c.args.erased.now c.values_at_roots.new.values c.solve.new.sums c.args.locators.now _
     (omega arith) (omega arith) (omega arith)
-    (bytes_of_all c.clear.new.word c.clear.ensures.bytes) c.put.ensures.bytes c.requires.rising c.requires.below c.requires.enough
+    (bytes_of_all c.clear.new.word c.clear.ensures.bytes) c.put.ensures.bytes c.requires.pattern.places_are.rising c.requires.pattern.places_are.below c.requires.pattern.few
     c.clear.ensures.cleared c.clear.ensures.others c.put.ensures.others
-    c.requires.located (omega arith) (λ j h. c.values_at_roots.ensures j (omega arith)) (c.if-not-solve.ensures.solved yes) c.put.ensures.values
+    c.requires.pattern.located (omega arith) (λ j h. c.values_at_roots.ensures j (omega arith)) (c.if-not-solve.ensures.solved yes) c.put.ensures.values)
