@@ -9,13 +9,14 @@ use Rattle.std.specs.Int.Bits.{xor_assoc}
 use Rattle.rs01_gf256.specs.Field.{times}
 use Rattle.rs01_poly.specs.Polynomial.{add_front, scale, remainder}
 use Rattle.rs01_poly.specs.Code.{encode, generator, lower}
+use Rattle.rs01_encode.specs.Register.{IsShifted}
 use Rattle.rs01_poly.proofs.CodeLaws.{length-lower}
 use Rattle.rs01_poly.proofs.Coefficients.{add_front-zeros, add_zeros, length-add_front, get_or-add_front, get_or-scale}
 
 pub division_step : (n b : ℕ) (g new old p : List ℕ)
     → length g ≡ length old → length new ≡ length old → 0 < length old → length old ≤ suc (length p)
     → length old ≤ length p
-    → ((k : ℕ) → get_or new k 0 ≡ bit_xor (get_or old (k + 1) 0) (times (bit_xor b (get_or old 0 0)) (get_or g k 0)))
+    → IsShifted old new g b
     → remainder (suc n) g (add_front old (b ∷ p)) ≡ remainder n g (add_front new p)
 unfolding remainder add_front
 division_step n b g new [] p eg en some fits room steps = absurd (omega arith)
@@ -42,7 +43,7 @@ start d low ps r whole zeros gen =
 
 pub step : (d ps new low : List ℕ) (i : ℕ) (e : List ℕ) → length d + length ps ≡ 255 → 0 < length ps → i < length d
     → length low ≡ length ps → length new ≡ length ps
-    → ((k : ℕ) → get_or new k 0 ≡ bit_xor (get_or ps (k + 1) 0) (times (bit_xor (get_or d i 0) (get_or ps 0 0)) (get_or low k 0)))
+    → IsShifted ps new low (get_or d i 0)
     → remainder (length d - i) low (add_front ps (drop i d ++ replicate (255 - length d) 0)) ≡ e
     → remainder (length d - (i + 1)) low (add_front new (drop (i + 1) d ++ replicate (255 - length d) 0)) ≡ e
 step d ps new low i e whole some l ls ns shifted held =

@@ -1,6 +1,6 @@
 -- The registers of a layer's codewords, as lists.
-use Rattle.std.proofs.Common.{◌≡◌, ℕ, ◌+◌, ◌*◌, ◌^◌, ◌<◌, ◌≤◌, List, length, get_or, replicate, sym, ap, ◌∙◌, arith, bit_xor, ⊎_elim}
-use Rattle.std.specs.List.{range_with_len}
+use Rattle.std.proofs.Common.{◌≡◌, ℕ, ◌+◌, ◌*◌, ◌^◌, ◌<◌, ◌≤◌, List, length, get_or, replicate, sym, ap, ◌∙◌, arith, bit_xor, ⊎_elim, below_more}
+use Rattle.std.specs.List.{SameBelow, range_with_len}
 use Rattle.std.specs.Int.Bits.{xor_zero_r}
 use Rattle.std.proofs.lemmas.Bool.{cases_lt}
 use Rattle.std.proofs.lemmas.Nat.{mul-le}
@@ -9,7 +9,8 @@ use Rattle.std.proofs.lemmas.List.FromFn.{length-range_with_len, get_or-range_wi
 use Rattle.std.proofs.lemmas.Grind.{same_number_lists}
 use Rattle.rs01_gf256.specs.Field.{times}
 use Rattle.rs01_gf256.proofs.Laws.{times-comm, times-zero}
-use Rattle.rs01_encode.specs.Columns.{register}
+use Rattle.rs01_encode.specs.Columns.{AreShifted, HoldsRow, HoldsRows, register}
+use Rattle.rs01_encode.specs.Register.{IsShifted}
 
 pub length-register : (columns : List ℕ) (r l : ℕ) → length (register columns r l) ≡ r
 unfolding register
@@ -32,12 +33,11 @@ register-zeros columns r l zeros =
     get_or-register columns r l k inside ∙ zeros (2048 * k + l) (omega arith) ∙ sym (get_or-replicate r k 0 0 inside))
 
 -- one step of all registers is one step of each
-pub shifted : (old new low : List ℕ) (r l b f : ℕ) → 0 < r → l < 2048 → length old ≡ 2048 * r → length low ≡ r
-    → ((k : ℕ) → get_or low k 0 < 2 ^ 8) → f < 2 ^ 8 → f ≡ bit_xor b (get_or old l 0)
-    → ((k : ℕ) → k < r → get_or new (2048 * k + l) 0 ≡ bit_xor (get_or old (2048 * (k + 1) + l) 0) (times (get_or low k 0) f))
-    → (k : ℕ) → get_or (register new r l) k 0
-    ≡ bit_xor (get_or (register old r l) (k + 1) 0) (times (bit_xor b (get_or (register old r l) 0 0)) (get_or low k 0))
-shifted old new low r l b f some inside whole lows bytes hf fed step k =
+pub shifted : (old new low feedback : List ℕ) (r l b : ℕ) → 0 < r → l < 2048 → length old ≡ 2048 * r → length low ≡ r
+    → ((k : ℕ) → get_or low k 0 < 2 ^ 8) → get_or feedback l 0 < 2 ^ 8 → get_or feedback l 0 ≡ bit_xor b (get_or old l 0)
+    → AreShifted old new low feedback → IsShifted (register old r l) (register new r l) low b
+shifted old new low feedback r l b some inside whole lows bytes hf fed step k =
+    let f = get_or feedback l 0 in
     let first : get_or (register old r l) 0 0 ≡ get_or old l 0 =
     get_or-register old r l 0 some ∙ ap (λ m. get_or old m 0) (let e : 2048 * 0 + l ≡ l = omega arith in e) in
     let same : f ≡ bit_xor b (get_or (register old r l) 0 0) = fed ∙ ap (bit_xor b) (sym first) in
@@ -49,7 +49,7 @@ shifted old new low r l b f some inside whole lows bytes hf fed step k =
     (λ (none : r ≤ k + 1). get_or_past old (2048 * (k + 1) + l) 0 (omega arith) ∙ sym (past old r l (k + 1) none))
     (cases_lt (k + 1) r) in
     get_or-register new r l k here
-    ∙ step k here
+    ∙ step k l (omega arith) inside
     ∙ (λ i. bit_xor (next i) ((times-comm (get_or low k 0) f (bytes k) hf ∙ ap (λ v. times v (get_or low k 0)) same) i)))
     (λ (out : r ≤ k).
     let f0 = bit_xor b (get_or (register old r l) 0 0) in
@@ -58,7 +58,13 @@ shifted old new low r l b f some inside whole lows bytes hf fed step k =
     (cases_lt k r)
 
 -- a byte of an earlier codeword's parity lies before that of a later one
-pub earlier_byte : (m l r j : ℕ) → m < l → j < r → m * r + j < l * r
+earlier_byte : (m l r j : ℕ) → m < l → j < r → m * r + j < l * r
 earlier_byte m l r j earlier inside =
     let room : (m + 1) * r ≤ l * r = mul-le (m + 1) r l r (omega arith) (omega arith) in
     omega (arith, room)
+
+-- one codeword more
+pub one_row_more : (old new columns : List ℕ) (r n : ℕ) → HoldsRow new (n * r) columns n r → SameBelow old new (n * r)
+    → HoldsRows old columns r n → HoldsRows new columns r (n + 1)
+one_row_more old new columns r n here same before =
+    below_more _ _ (λ b h j k. same (b * r + j) 0 (earlier_byte b n r j h k) ∙ before b h j k) here

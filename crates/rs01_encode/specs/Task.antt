@@ -12,6 +12,10 @@ use Rattle.rs01_layers.specs.declared.task.LayerOut.TheVariants.{Parity}
 unfoldable pub parity_of : ℕ → List (List ℕ) → List ℕ
 parity_of n blocks = flat_map (λ b. encode (column blocks b)) (range_with_len 0 n)
 
--- the parity of all 2048 codewords of a layer
+-- that of all 2048 codewords, of which r bytes are parity, and whose blocks stand one after the other
+abbrev pub layer_parity : ℕ → List ℕ → List ℕ
+layer_parity r blocks = parity_of 2048 (blocks_of (255 - r) blocks)
+
+-- that of a layer
 unfoldable pub encoded : LayerInput → LayerOut
-encoded input = Parity (parity_of 2048 (blocks_of (255 - input.parity_count) input.data_))
+encoded input = Parity (layer_parity input.parity_count input.data_)

@@ -1,8 +1,8 @@
 //! The shift register, which divides by the generator polynomial.
 
-ghost use Rattle.std.specs.Prelude.{◌≡◌, ℕ, ◌+◌, ◌-◌, ◌<◌, bit_xor, length, slice_index};
-ghost use Rattle.rs01_gf256.specs.Field.{times};
+ghost use Rattle.std.specs.Prelude.{◌≡◌, ◌+◌, ◌<◌, length};
 ghost use Rattle.rs01_poly.specs.Code.{encode, generator, lower};
+ghost use Rattle.rs01_encode.specs.Register.{IsShifted};
 
 use rs01_gf256::Gf;
 
@@ -11,9 +11,7 @@ use rs01_gf256::Gf;
 fn shift(register: &mut [u8], low: &[u8], byte: u8)
     requires some { 0 < length register.old }
     requires same { length low.now ≡ length register.old }
-    ensures { (k : ℕ) → slice_index register.new k
-        ≡ bit_xor (slice_index register.old (k + 1)) (times (bit_xor byte
-        (slice_index register.old 0)) (slice_index low.now k)) }
+    ensures { IsShifted register.old register.new low.now byte }
 {
     let feedback = Gf(byte ^ register[0]);
     let last = register.len() - 1;

@@ -1,14 +1,12 @@
 //! The task that encodes a layer.
 
-ghost use Rattle.std.specs.Prelude.{◌≡◌, ℕ, ◌+◌, ◌-◌, ◌*◌, ◌<◌, ◌≤◌, ◌++◌, IfOk, OnOk, length};
-ghost use Rattle.rs01_poly.specs.Code.{encode};
-ghost use Rattle.rs01_layers.specs.Blocks.{blocks_of};
-ghost use Rattle.rs01_layers.specs.Layer.{column};
-ghost use Rattle.rs01_encode.specs.Task.{encoded, parity_of};
+ghost use Rattle.std.specs.Prelude.{◌≡◌, ◌-◌, ◌*◌, ◌≤◌, IfOk, length};
+ghost use Rattle.rs01_encode.specs.Task.{encoded, layer_parity};
 
 use crate::encoder::Encoder;
 use rs01_columns::LayerEncoder;
 use rs01_layers::{Bytes, LayerInput, LayerOut, LayerTask, column_of_blocks_into};
+use rs01_lists::zeroed;
 use std::alloc::{AllocError, Global};
 
 /// The task that gives the parity of a layer's 2048 codewords, as `LayerOut::Parity`. It takes every
@@ -61,13 +59,6 @@ fn work_by_columns(
     Ok(LayerOut::Parity(Bytes::of(parity)))
 }
 
-// So many zeros.
-fn zeros(alloc: Global, size: usize) -> Result<Vec<u8>, AllocError>
-    ensures { IfOk result (λ list. length list.items ≡ size) }
-{
-    vec![in alloc; 0u8; size]
-}
-
 // The parity of the codewords whose data lie in these blocks.
 fn encode_by_columns(
     encoder: &LayerEncoder,
@@ -75,10 +66,9 @@ fn encode_by_columns(
     blocks: &[u8],
 ) -> Result<Vec<u8>, AllocError>
     requires blocks { length blocks.now ≡ 2048 * (255 - encoder.now) }
-    ensures { IfOk result (λ bytes. bytes.items
-        ≡ parity_of 2048 (blocks_of (255 - encoder.now) blocks.now)) }
+    ensures { IfOk result (λ bytes. bytes.items ≡ layer_parity encoder.now blocks.now) }
 {
-    let mut parity = zeros(alloc, 2048 * encoder.parity_count() as usize)?;
+    let mut parity = zeroed(alloc, 2048 * encoder.parity_count() as usize)?;
     encode_into(encoder, alloc, blocks, parity.as_mut_slice())?;
     Ok(parity)
 }
@@ -93,8 +83,7 @@ fn encode_into(
     requires most { encoder.now ≤ 100 }
     requires blocks { length blocks.now ≡ 2048 * (255 - encoder.now) }
     requires parity { length parity.old ≡ 2048 * encoder.now }
-    ensures { IfOk result (λ _. parity.new
-        ≡ parity_of 2048 (blocks_of (255 - encoder.now) blocks.now)) }
+    ensures { IfOk result (λ _. parity.new ≡ layer_parity encoder.now blocks.now) }
 {
     encoder.encode(alloc, blocks, parity)?;
     Ok(())
@@ -115,34 +104,26 @@ impl LayerTask for PlainEncodeTask {
         let mut parity_room = [0u8; 100];
         let data_ = &mut data_room[..255 - input.parity_count as usize];
         let parity = &mut parity_room[..input.parity_count as usize];
-        let blocks = input.data_.items();
-        let bytes = encode_blocks(alloc, blocks, input.parity_count, 2048, data_, parity)?;
+        let bytes = encode_blocks(alloc, input, data_, parity)?;
         Ok(LayerOut::Parity(Bytes::of(bytes)))
     }
 }
 
-// The parity of the first codewords of a layer. The two buffers are only used meanwhile.
+// The parity of the codewords of a layer. The two buffers are only used meanwhile.
 fn encode_blocks(
     alloc: Global,
-    blocks: &[u8],
-    parity_count: u32,
-    codewords: u32,
+    input: &LayerInput,
     data_: &mut [u8],
     parity: &mut [u8],
 ) -> Result<Vec<u8>, AllocError>
-    requires least { 8 ≤ parity_count }
-    requires most { parity_count ≤ 100 }
-    requires blocks { length blocks.now ≡ 2048 * (255 - parity_count) }
-    requires codewords { codewords ≤ 2048 }
-    requires data_room { length data_.old ≡ 255 - parity_count }
-    requires parity_room { length parity.old ≡ parity_count }
-    ensures { IfOk result (λ bytes. bytes.items
-        ≡ parity_of codewords (blocks_of (255 - parity_count) blocks.now)) }
+    requires data_room { length data_.old ≡ 255 - input.now.parity_count }
+    requires parity_room { length parity.old ≡ input.now.parity_count }
+    ensures { IfOk result (λ bytes. bytes.items ≡ layer_parity input.now.parity_count input.now.data_) }
 {
-    let encoder = Encoder::new(parity_count);
-    let mut bytes = Vec::with_capacity(alloc, codewords as usize * parity_count as usize)?;
-    for codeword in 0..codewords {
-        column_of_blocks_into(blocks, codeword, data_);
+    let encoder = Encoder::new(input.parity_count);
+    let mut bytes = Vec::with_capacity(alloc, 2048 * parity.len())?;
+    for codeword in 0..2048u32 {
+        column_of_blocks_into(input.data_.items(), codeword, data_);
         encoder.encode(data_, parity);
         bytes.extend_from_slice(parity)?;
     }

@@ -9,7 +9,7 @@ abbrev pub invariant-loop-place : goal.invariant-loop-place
 invariant-loop-place l = record {
   long : length l.columns ≡ length l.initial.columns;
   fed : length l.feedback ≡ length l.initial.feedback;
-  held : (b : ℕ) → b < 2048 → remainder (length (data_at l.r l.data_ b) - l.place) l.low
-      (add_front (register l.columns l.r b) (drop l.place (data_at l.r l.data_ b) ++ replicate (255 - length (data_at l.r l.data_ b)) 0))
-      ≡ encode (data_at l.r l.data_ b);
+  held : (b : ℕ) → b < 2048 → remainder (length (data_at l.r l.blocks b) - l.place) l.low
+      (add_front (register l.columns l.r b) (drop l.place (data_at l.r l.blocks b) ++ replicate (255 - length (data_at l.r l.blocks b)) 0))
+      ≡ encode (data_at l.r l.blocks b);
 }

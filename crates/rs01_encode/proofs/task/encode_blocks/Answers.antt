@@ -21,11 +21,17 @@ one_codeword_more blocks b old new word parity held gathered encoded put =
     ∙ sym (flat_map-append f (range_with_len 0 b) (b ∷ [])) ∙ ap (flat_map f) (sym (range_more b))
 
 pub loop-codeword-init : goal.loop-codeword-init
-loop-codeword-init c = c.in_ok-bytes.ensures.items ∙ no_codeword (blocks_of (255 - c.args.parity_count) c.args.blocks.now)
+loop-codeword-init c = c.in_ok-bytes.ensures.items ∙ no_codeword (blocks_of (255 - c.args.input.now.parity_count) c.args.input.now.data_)
 
 pub loop-codeword-preserved : goal.loop-codeword-preserved
 loop-codeword-preserved c =
-    let n : length c.loop-codeword.data_ ≡ 255 - c.args.parity_count = omega arith in
-    one_codeword_more (blocks_of (255 - c.args.parity_count) c.args.blocks.now) c.loop-codeword.codeword c.loop-codeword.bytes.items _ _ _
-    c.loop-codeword.invariant (c.column_of_blocks_into.ensures ∙ ap (λ k. column (blocks_of k c.args.blocks.now) c.loop-codeword.codeword) n)
+    let n : length c.loop-codeword.data_ ≡ 255 - c.args.input.now.parity_count = omega arith in
+    one_codeword_more (blocks_of (255 - c.args.input.now.parity_count) c.args.input.now.data_) c.loop-codeword.codeword c.loop-codeword.bytes.items _ _ _
+    c.loop-codeword.invariant
+    (c.column_of_blocks_into.ensures ∙ (λ i. column (blocks_of (n i) (c.items.ensures i)) c.loop-codeword.codeword))
     c.encode.ensures.parity c.in_ok-extend_from_slice.ensures.items
+
+pub returns : goal.returns
+returns c =
+    let all : c.loop-codeword.codeword ≡ 2048 = omega arith in
+    c.loop-codeword.invariant ∙ ap (λ n. parity_of n (blocks_of (255 - c.args.input.now.parity_count) c.args.input.now.data_)) all

@@ -1,14 +1,13 @@
-use Rattle.std.proofs.Common.{◌≡◌, ℕ, ◌-◌, List, ap, sym, ◌∙◌}
-use Rattle.rs01_layers.specs.Blocks.{blocks_of}
+use Rattle.std.proofs.Common.{◌≡◌, ℕ, List, ap, sym, ◌∙◌}
 use Rattle.rs01_layers.specs.declared.input.LayerInput.{LayerInput}
 use Rattle.rs01_layers.specs.declared.task.LayerOut.TheVariants.{Parity}
-use Rattle.rs01_encode.specs.Task.{encoded, parity_of}
+use Rattle.rs01_encode.specs.Task.{encoded, layer_parity}
 use Rattle.rs01_encode.proofs.task.work_by_columns.Goals as goal
 
 whole : (input : LayerInput) (r : ℕ) (items bytes : List ℕ) → items ≡ input.data_ → r ≡ input.parity_count
-    → bytes ≡ parity_of 2048 (blocks_of (255 - r) items) → Parity bytes ≡ encoded input
+    → bytes ≡ layer_parity r items → Parity bytes ≡ encoded input
 unfolding encoded
-whole input r items bytes same count made = ap Parity (made ∙ (λ i. parity_of 2048 (blocks_of (255 - count i) (same i))))
+whole input r items bytes same count made = ap Parity (made ∙ (λ i. layer_parity (count i) (same i)))
 
 pub returns : goal.returns
 returns c =
