@@ -38,8 +38,9 @@ impl CorrectTask {
         requires least { 8 ≤ parity }
         requires most { parity ≤ 100 }
     {
-        let syndromes = LayerSyndromes::new(alloc, parity)?;
-        Ok(CorrectTask { syndromes })
+        Ok(CorrectTask {
+            syndromes: LayerSyndromes::new(alloc, parity)?,
+        })
     }
 }
 
@@ -127,10 +128,11 @@ fn test_layer(
 {
     let count = syndromes.count_codewords(alloc, blocks, input.parity.items())?;
     if count < 2048 {
-        answer_stopped(alloc, input, erased, blocks, count)
-    } else {
-        answer_filled(alloc, input, erased, blocks)
+        return answer_stopped(alloc, input, erased, blocks, count);
     }
+    let restored = blocks_at(alloc, blocks, erased)?;
+    let out = answer_restored(alloc, input, erased, &restored)?;
+    Ok(out)
 }
 
 // The answer where the codewords before this one are completed, and this one may be inconsistent.
@@ -151,23 +153,6 @@ fn answer_stopped(
         return restore_places(alloc, input, erased);
     }
     Ok(LayerOut::Inconsistent(codeword))
-}
-
-// The answer where all codewords are completed to those of these blocks.
-fn answer_filled(
-    alloc: Global,
-    input: &LayerInput,
-    erased: &[u8],
-    blocks: &[u8],
-) -> Result<LayerOut, AllocError>
-    requires erased { AreErased input.now erased.now }
-    requires blocks { length blocks.now ≡ 2048 * (255 - input.now.parity_count) }
-    requires completed { AreCompleted input.now erased.now blocks.now 2048 }
-    ensures { IfOk result (λ out. out ≡ correct input.now) }
-{
-    let restored = blocks_at(alloc, blocks, erased)?;
-    let out = answer_restored(alloc, input, erased, &restored)?;
-    Ok(out)
 }
 
 // The blocks at these places, one after the other.

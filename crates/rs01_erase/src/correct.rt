@@ -9,6 +9,7 @@ use crate::restore::restore_codeword;
 use rs01_layers::{
     Bytes, LayerInput, LayerOut, LayerTask, Placed, PlacedList, column_of_blocks_into,
 };
+use rs01_lists::zeroed;
 use rs01_sums::crc32;
 use std::alloc::{AllocError, Global};
 
@@ -142,13 +143,6 @@ fn place_blocks(alloc: Global, restored: &[u8], erased: &[u8]) -> Result<Vec<Pla
     Ok(list)
 }
 
-// So many zeros.
-fn zeros(alloc: Global, size: usize) -> Result<Vec<u8>, AllocError>
-    ensures { IfOk result (λ list. length list.items ≡ size) }
-{
-    vec![in alloc; 0u8; size]
-}
-
 // Restores the blocks of the erased places, of which there are not too many, within a buffer.
 fn restore_within(
     alloc: Global,
@@ -197,7 +191,7 @@ pub fn restore_places(
     requires erased { AreErased input.now erased.now }
     ensures { IfOk result (λ out. out ≡ correct input.now) }
 {
-    let mut restored = zeros(alloc, 2048 * erased.len())?;
+    let mut restored = zeroed(alloc, 2048 * erased.len())?;
     let out = restore_within(alloc, input, erased, restored.as_mut_slice())?;
     Ok(out)
 }

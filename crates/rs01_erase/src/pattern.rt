@@ -6,6 +6,7 @@ ghost use Rattle.rs01_erase.specs.Pattern.{IsRestoredBy, PatternOf, completed_by
 ghost use Rattle.rs01_erase.specs.PowerSums.{locator};
 
 use crate::restore::{locate, restore_with};
+use rs01_lists::zeroed;
 use std::alloc::{AllocError, Global};
 use std::marker::Model;
 use thiserror::Error;
@@ -45,19 +46,12 @@ impl Model for Pattern {
     ghost invariant = { λ p. IsPattern p.places.items p.parity_count p.locators.items };
 }
 
-// So many zeros.
-fn zeros(alloc: Global, size: usize) -> Result<Vec<u8>, AllocError>
-    ensures { IfOk result (λ list. length list.items ≡ size) }
-{
-    vec![in alloc; 0u8; size]
-}
-
 // The locators of these places.
 fn locators_of(alloc: Global, erased: &[u8]) -> Result<Vec<u8>, AllocError>
     requires below { All (λ p. p < 255) erased.now }
     ensures { IfOk result (λ list. list.items ≡ map locator erased.now) }
 {
-    let mut locators = zeros(alloc, erased.len())?;
+    let mut locators = zeroed(alloc, erased.len())?;
     locate(erased, locators.as_mut_slice());
     Ok(locators)
 }
