@@ -38,23 +38,23 @@ impl LayerTask for EncodeTask {
 
     fn work(&self, alloc: Global, input: &LayerInput) -> Result<LayerOut, AllocError> {
         match &self.encoder {
-            Some(encoder) => work_by_columns(encoder, alloc, input),
-            None => PlainEncodeTask.work(alloc, input),
+            Some(encoder) if encoder.parity_count() == input.parity_count => {
+                work_by_columns(encoder, alloc, input)
+            }
+            _ => PlainEncodeTask.work(alloc, input),
         }
     }
 }
 
-// The parity by columns, if the encoder is for this number of parity bytes.
+// The parity by columns.
 fn work_by_columns(
     encoder: &LayerEncoder,
     alloc: Global,
     input: &LayerInput,
 ) -> Result<LayerOut, AllocError>
+    requires { encoder.now ≡ input.now.parity_count }
     ensures { IfOk result (λ out. out ≡ encoded input.now) }
 {
-    if encoder.parity_count() != input.parity_count {
-        return PlainEncodeTask.work(alloc, input);
-    }
     let parity = encode_by_columns(encoder, alloc, input.data_.items())?;
     Ok(LayerOut::Parity(Bytes::of(parity)))
 }

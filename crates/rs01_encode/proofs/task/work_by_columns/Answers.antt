@@ -1,4 +1,4 @@
-use Rattle.std.proofs.Common.{◌≡◌, ℕ, List, ap, sym, ◌∙◌}
+use Rattle.std.proofs.Common.{◌≡◌, ℕ, List, ap, ◌∙◌}
 use Rattle.rs01_layers.specs.declared.input.LayerInput.{LayerInput}
 use Rattle.rs01_layers.specs.declared.task.LayerOut.TheVariants.{Parity}
 use Rattle.rs01_encode.specs.Task.{encoded, layer_parity}
@@ -11,4 +11,4 @@ whole input r items bytes same count made = ap Parity (made ∙ (λ i. layer_par
 
 pub returns : goal.returns
 returns c =
-    whole c.args.input.now c.args.encoder.now _ _ c.items.ensures (sym c.parity_count.ensures.value ∙ c.if-parity_count-input.false) (c.of.ensures ∙ c.in_ok-parity.ensures)
+    whole c.args.input.now c.args.encoder.now _ _ c.items.ensures c.requires (c.of.ensures ∙ c.in_ok-parity.ensures)
