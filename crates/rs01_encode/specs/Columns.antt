@@ -12,6 +12,12 @@ abbrev pub IsFeedback : List ℕ → List ℕ → ℕ → List ℕ → Type 0
 IsFeedback feedback blocks at columns =
     (l : ℕ) → l < length feedback → slice_index feedback l ≡ bit_xor (slice_index blocks (at + l)) (slice_index columns l)
 
+-- the bytes of a range are those behind it, and all else is as before
+pub record HasTaken (old new : List ℕ) (at width : ℕ) : Type 0 where
+  pub here : (m : ℕ) → m < width → slice_index new (at + m) ≡ slice_index old (at + width + m)
+  pub before : SameBelow old new at
+  pub after : SameFrom old new (at + width)
+
 -- a multiple of the feedback is added to column k, and all else is as before
 pub record HasAdded (old new : List ℕ) (k : ℕ) (feedback : List ℕ) (factor : ℕ) : Type 0 where
   pub here : (l : ℕ) → l < 2048

@@ -6,7 +6,7 @@ ghost use Rattle.std.specs.List.{SameBelow};
 ghost use Rattle.rs01_poly.specs.Code.{encode};
 ghost use Rattle.rs01_columns.specs.Lanes.{HoldsProducts};
 ghost use Rattle.rs01_columns.specs.Layer.{data_at};
-ghost use Rattle.rs01_encode.specs.Columns.{AreShifted, HasAdded, HoldsRow, HoldsRows, IsFeedback, register};
+ghost use Rattle.rs01_encode.specs.Columns.{AreShifted, HasAdded, HasTaken, HoldsRow, HoldsRows, IsFeedback, register};
 ghost use Rattle.rs01_encode.specs.Register.{AreLower};
 ghost use Rattle.rs01_encode.specs.Task.{layer_parity};
 
@@ -22,14 +22,13 @@ fn clear(columns: &mut [u8], at: usize)
     columns[at..].fill(0);
 }
 
-// Each column becomes the one behind it, and the last becomes 0.
-fn move_on(columns: &mut [u8])
-    requires { 2048 ≤ length columns.old }
-    ensures { (m : ℕ) → slice_index columns.new m ≡ slice_index columns.old (2048 + m) }
+// Copies the range behind a range into it.
+fn take_next(columns: &mut [u8], at: usize, width: usize)
+    requires { at + 2 * width ≤ length columns.old }
+    ensures { HasTaken columns.old columns.new at width }
 {
-    let last = columns.len() - 2048;
-    columns.copy_within(2048.., 0);
-    clear(columns, last);
+    let (front, back) = columns.split_at_mut(at + width);
+    front[at..].copy_from_slice(&back[..width]);
 }
 
 // Adds a multiple of the feedback to a column.
@@ -49,10 +48,13 @@ fn shift_columns(columns: &mut [u8], low: &[u8], feedback: &[u8; 2048], products
     requires columns { length columns.old ≡ 2048 * length low.now }
     ensures { AreShifted columns.old columns.new low.now feedback.now }
 {
-    move_on(columns);
-    for (k, factor) in low.iter().enumerate() {
-        add_to(columns, k, feedback, *factor, products);
+    let last = low.len() - 1;
+    for k in 0..last {
+        take_next(columns, 2048 * k, 2048);
+        add_to(columns, k, feedback, low[k], products);
     }
+    clear(columns, 2048 * last);
+    add_to(columns, last, feedback, low[last], products);
 }
 
 // Writes what is fed back: the block's bytes with those of the first column.
