@@ -1,5 +1,5 @@
 -- What is answered when an image was looked at, and when its file was made.
-use Rattle.std.proofs.Common.{◌≡◌, ℕ, List, [], Bool, false, true, refl, sym, ap, subst, ◌∙◌, inl}
+use Rattle.std.proofs.Common.{◌≡◌, ℕ, List, [], false, true, refl, sym, ap, subst, ◌∙◌, inl}
 use Rattle.std.specs.Prelude.{IsTrue, Option, Some, None, Result, Ok, Err}
 use Rattle.std.specs.Option.{unwrap_or}
 use Rattle.rs01_outside.specs.DeskState.{DeskState, OnlyChanges, OnlyReads, WorksOn}

@@ -1,14 +1,14 @@
 -- What looking at an image answers, by what was found.
-use Rattle.std.proofs.Common.{◌≡◌, ℕ, ◌<◌, ◌+◌, List, [], length, refl, sym, ap, subst, ◌∙◌, arith}
-use Rattle.std.specs.Prelude.{Option, Some, None, Result, Ok, Err}
+use Rattle.std.proofs.Common.{◌≡◌, ℕ, ◌<◌, List, [], length, sym, ap, ◌∙◌, arith}
+use Rattle.std.specs.Prelude.{Option, Some, None, Result, Err}
 use Rattle.std.specs.Option.{option_map, unwrap_or}
-use Rattle.rs01_outside.specs.Files.{Files, bytes_of}
-use Rattle.rs01_layers.specs.Sectors.{last_of, sectors_of}
 use Rattle.rs01_ecchead.specs.Pieces.{IsPiece}
-use Rattle.rs01_ecchead.proofs.Parts.{whole_file}
+use Rattle.rs01_ecchead.proofs.Parts.{whole_under}
+use Rattle.rs01_ecchead.specs.declared.walk.WalkFault.{WalkFault}
+use Rattle.rs01_ecchead.specs.declared.walk.WalkFault.TheVariants as walk
 use Rattle.rs01_create.specs.Answer.{Looks}
 use Rattle.rs01_create.specs.Create.{first_marked, refusal_of, size_refusal}
-use Rattle.rs01_create.specs.Looking.{IsMeasured, IsOfReading, bytes_in}
+use Rattle.rs01_create.specs.Looking.{IsMeasured, bytes_in, walk_refusal}
 use Rattle.rs01_create.specs.declared.image.Image.{Image}
 use Rattle.rs01_create.specs.declared.refusal.CreateRefusal.{CreateRefusal}
 use Rattle.rs01_create.specs.declared.refusal.CreateRefusal.TheVariants.{NoImage, EmptyImage, TooManySectors, Marker, ReadFault, WriteFault, OutOfMemory}
@@ -43,45 +43,24 @@ measure_never n r WriteFault h e = absurd h
 measure_never n r OutOfMemory h e = absurd h
 
 -- bytes that couldn't be read
-by_reading : (o : Option (List ℕ)) (why : CreateRefusal) → IsOfReading why → Looks o (Err why)
-by_reading o NoImage h = absurd h
-by_reading o EmptyImage h = absurd h
-by_reading o (TooManySectors n) h = absurd h
-by_reading o (Marker s) h = absurd h
-by_reading o ReadFault h = tt
-by_reading o WriteFault h = tt
-by_reading o OutOfMemory h = tt
+by_reading : (o : Option (List ℕ)) (why : WalkFault) → Looks o (Err (walk_refusal why))
+by_reading o walk.ReadFault = tt
+by_reading o walk.OutOfMemory = tt
 
-pub reading_many : (why : CreateRefusal) → IsOfReading why → (m : ℕ) → why ≡ TooManySectors m → 16777215 < m
-reading_many NoImage h m e = absurd h
-reading_many EmptyImage h m e = absurd h
-reading_many (TooManySectors k) h m e = absurd h
-reading_many (Marker s) h m e = absurd h
-reading_many ReadFault h m e = cc
-reading_many WriteFault h m e = absurd h
-reading_many OutOfMemory h m e = cc
+pub reading_many : (why : WalkFault) (m : ℕ) → walk_refusal why ≡ TooManySectors m → 16777215 < m
+reading_many walk.ReadFault m e = cc
+reading_many walk.OutOfMemory m e = cc
 
-pub reading_never : (why : CreateRefusal) → IsOfReading why → why ≡ WriteFault → ⊥
-reading_never NoImage h e = absurd h
-reading_never EmptyImage h e = absurd h
-reading_never (TooManySectors k) h e = absurd h
-reading_never (Marker s) h e = absurd h
-reading_never ReadFault h e = cc
-reading_never WriteFault h e = absurd h
-reading_never OutOfMemory h e = cc
+pub reading_never : (why : WalkFault) → walk_refusal why ≡ WriteFault → ⊥
+reading_never walk.ReadFault e = cc
+reading_never walk.OutOfMemory e = cc
 
 -- a file that was held, and the first sector that is marked in it
-held : (o : Option (List ℕ)) (n : ℕ) (bytes : List ℕ) → Some n ≡ option_map length o → length bytes ≡ n → IsPiece (unwrap_or o []) 0 bytes → o ≡ Some bytes
-held None n bytes e long piece = cc
-held (Some file) n bytes e long piece =
-    let same : length file ≡ n = cc in
-    ap (λ (xs : List ℕ). Some xs) (sym (whole_file file bytes (long ∙ sym same) piece))
-
 pub by_mark : (o : Option (List ℕ)) (n : ℕ) (bytes : List ℕ) (m : Option ℕ) → Some n ≡ option_map length o → length bytes ≡ n
     → IsPiece (unwrap_or o []) 0 bytes → size_refusal n ≡ None → m ≡ first_marked bytes
     → (o ≡ Some bytes) × (refusal_of o ≡ option_map Marker m)
 by_mark o n bytes m e long piece size found =
-    let is = held o n bytes e long piece in
+    let is = whole_under o n bytes e long piece in
     (is, by_marker o n bytes m e (λ file f l. let g : Some bytes ≡ Some file = sym is ∙ f in ap (λ (x : Option (List ℕ)). unwrap_or x []) g) size found)
 
 -- the answer that hands a refusal on
@@ -89,9 +68,9 @@ pub looks_measured : (o : Option (List ℕ)) (n r : ℕ) (result : Result Image 
     → Some n ≡ option_map length o → IsMeasured n r (Err why) → Looks o (bytes_in result)
 looks_measured o n r result x why is from e h = rw (is, from) (by_measure o n r why e h)
 
-pub looks_read : (o : Option (List ℕ)) (result : Result Image CreateRefusal) (x why : CreateRefusal) → result ≡ Err x → x ≡ why → IsOfReading why
+pub looks_read : (o : Option (List ℕ)) (result : Result Image CreateRefusal) (x : CreateRefusal) (why : WalkFault) → result ≡ Err x → x ≡ walk_refusal why
     → Looks o (bytes_in result)
-looks_read o result x why is from h = rw (is, from) (by_reading o why h)
+looks_read o result x why is from = rw (is, from) (by_reading o why)
 
 pub handed_on : (result : Result Image CreateRefusal) (x why other : CreateRefusal) → result ≡ Err x → x ≡ why → result ≡ Err other → why ≡ other
 handed_on result x why other is from e = cc

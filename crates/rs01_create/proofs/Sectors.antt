@@ -8,7 +8,7 @@ use Rattle.std.proofs.lemmas.List.Folds.{find-append}
 use Rattle.std.specs.Bool.{Decides}
 use Rattle.std.proofs.lemmas.Bool.Decides.{same_from_decides}
 use Rattle.std.proofs.lemmas.Slice.Eq.{bytes_eq-Decides}
-use Rattle.rs01_layers.specs.Sectors.{sectors_of, last_of, length_of, block, sector}
+use Rattle.rs01_layers.specs.Sectors.{sectors_of, length_of, block, sector}
 use Rattle.rs01_layers.specs.Extents.{IsExtentOf}
 use Rattle.rs01_layers.specs.declared.extent.Extent.{Extent}
 use Rattle.rs01_sums.specs.Marker.{marker}

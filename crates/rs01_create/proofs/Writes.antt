@@ -3,7 +3,7 @@ use Rattle.std.proofs.Common.{◌≡◌, ℕ, zero, suc, ◌+◌, ◌-◌, ◌�
 use Rattle.std.specs.Prelude.{Option, Some, Result, Ok, Err, IsErr, IsSomeAnd, IsTrue, Bool}
 use Rattle.std.specs.Option.{unwrap_or}
 use Rattle.std.proofs.Math.Seq.{take-append_seam, drop-append-add, drop-append_seam}
-use Rattle.std.proofs.lemmas.List.{length-replicate, length-append, length-take, drop-replicate, drop-append-le}
+use Rattle.std.proofs.lemmas.List.{length-append, length-take, drop-replicate, drop-append-le}
 use Rattle.rs01_outside.specs.Files.{Files, Becomes, SameElsewhere, bytes_of, put_at}
 use Rattle.rs01_lists.specs.Bytes.{padded, zeros}
 use Rattle.rs01_lists.proofs.Padding.{length-zeros}

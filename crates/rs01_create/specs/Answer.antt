@@ -1,11 +1,13 @@
 -- What an attempt to make the file of an image answers, and what it leaves.
-use Rattle.std.specs.Prelude.{ℕ, ◌≡◌, Bool, true, false, List, Option, Some, None, Result, Ok, Err}
+use Rattle.std.specs.Prelude.{ℕ, ◌≡◌, Bool, true, false, IsTrue, List, Option, Some, None, Result, Ok, Err}
+use Rattle.rs01_outside.specs.DeskState.{DeskState, WorksOn}
 use Rattle.rs01_outside.specs.Files.{Becomes, Files, bytes_of}
 use Rattle.rs01_ecchead.specs.EccFile.{ecc_file, head_fields}
 use Rattle.rs01_ecchead.specs.Header.{head_bytes}
 use Rattle.rs01_report.specs.declared.reports.CreateReport.{CreateReport}
 use Rattle.rs01_create.specs.Create.{refusal_of, report_of}
 use Rattle.rs01_create.specs.Unfinished.{IsUnfinished}
+use Rattle.rs01_create.specs.declared.image.Image.{Image}
 use Rattle.rs01_create.specs.declared.refusal.CreateRefusal.{CreateRefusal}
 use Rattle.rs01_create.specs.declared.refusal.CreateRefusal.TheVariants.{NoImage, EmptyImage, TooManySectors, Marker, ReadFault, WriteFault, OutOfMemory}
 
@@ -41,10 +43,18 @@ Creates image ecc r old new (Err ReadFault) = LeavesUnder image ecc r old new
 Creates image ecc r old new (Err WriteFault) = (refusal_of (old image) ≡ None) × LeavesUnder image ecc r old new
 Creates image ecc r old new (Err OutOfMemory) = LeavesUnder image ecc r old new
 
+-- the same where the desk tells its files
+abbrev pub Answers : (image ecc : List ℕ) → ℕ → (old new : DeskState) → Result CreateReport CreateRefusal → Type 0
+Answers image ecc r old new result = IsTrue old.tells → Creates image ecc r old.files new.files result
+
 -- the same of an image whose bytes are these and that isn't refused
 abbrev pub Makes : (bytes : List ℕ) → ℕ → (ecc : List ℕ) → (old new : Files) → Result CreateReport CreateRefusal → Type 0
 Makes bytes r ecc old new (Ok report) = Becomes ecc (ecc_file bytes r) old new × (report ≡ report_of bytes r)
 Makes bytes r ecc old new (Err why) = IsUnfinished (head_bytes (head_fields bytes r)) (old ecc) (new ecc)
+
+-- and of an image that is held
+abbrev pub MakesOn : Image → (ecc : List ℕ) → (old new : DeskState) → Result CreateReport CreateRefusal → Type 0
+MakesOn image ecc old new result = IsTrue old.tells → Makes image.bytes.items image.shape.parity ecc old.files new.files result
 
 -- it ends without a refusal of the image, and reads nothing
 abbrev pub IsOfMaking : Result CreateReport CreateRefusal → Type 0
@@ -77,6 +87,10 @@ is_write_fault (Err (Marker s)) = false
 is_write_fault (Err ReadFault) = false
 is_write_fault (Err WriteFault) = true
 is_write_fault (Err OutOfMemory) = false
+
+-- work on the file under a name, by what it answers
+abbrev pub Works : {T : Type 0} → List ℕ → (old new : DeskState) → Result T CreateRefusal → Type 0
+Works name old new result = WorksOn name old new (is_read_fault result) (is_write_fault result)
 
 -- what looking at an image answers: its bytes where it can be protected, or why it can't be
 abbrev pub Looks : Option (List ℕ) → Result (List ℕ) CreateRefusal → Type 0

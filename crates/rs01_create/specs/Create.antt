@@ -9,7 +9,7 @@ use Rattle.rs01_layers.specs.Layout.{layers_of}
 use Rattle.rs01_sums.specs.Marker.{marker}
 use Rattle.rs01_report.specs.declared.reports.CreateReport.{CreateReport}
 use Rattle.rs01_create.specs.declared.refusal.CreateRefusal.{CreateRefusal}
-use Rattle.rs01_create.specs.declared.refusal.CreateRefusal.TheVariants.{NoImage, EmptyImage, TooManySectors, Marker, ReadFault, WriteFault, OutOfMemory}
+use Rattle.rs01_create.specs.declared.refusal.CreateRefusal.TheVariants.{NoImage, EmptyImage, TooManySectors, Marker}
 
 -- the first sector that is its own marker
 unfoldable pub first_marked : List ℕ → Option ℕ

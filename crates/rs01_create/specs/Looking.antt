@@ -1,8 +1,12 @@
 -- What looking at an image finds.
-use Rattle.std.specs.Prelude.{ℕ, ◌≡◌, ◌<◌, List, Option, Some, None, Result, Ok, Err}
+use Rattle.std.specs.Prelude.{ℕ, ◌≡◌, ◌<◌, List, IsTrue, Some, None, Result, Ok, Err}
 use Rattle.rs01_layers.specs.Sectors.{last_of, sectors_of}
 use Rattle.rs01_layers.specs.declared.extent.Extent.{Extent}
 use Rattle.rs01_layers.specs.declared.shape.Shape.{Shape}
+use Rattle.rs01_outside.specs.DeskState.{DeskState}
+use Rattle.rs01_ecchead.specs.declared.walk.WalkFault.{WalkFault}
+use Rattle.rs01_ecchead.specs.declared.walk.WalkFault.TheVariants as walk
+use Rattle.rs01_create.specs.Answer.{Looks}
 use Rattle.rs01_create.specs.Create.{size_refusal}
 use Rattle.rs01_create.specs.declared.image.Image.{Image}
 use Rattle.rs01_create.specs.declared.refusal.CreateRefusal.{CreateRefusal}
@@ -27,17 +31,16 @@ IsMeasured size r (Err ReadFault) = ⊥
 IsMeasured size r (Err WriteFault) = ⊥
 IsMeasured size r (Err OutOfMemory) = ⊥
 
--- why bytes weren't read
-abbrev pub IsOfReading : CreateRefusal → Type 0
-IsOfReading NoImage = ⊥
-IsOfReading EmptyImage = ⊥
-IsOfReading (TooManySectors n) = ⊥
-IsOfReading (Marker s) = ⊥
-IsOfReading ReadFault = Unit {0}
-IsOfReading WriteFault = ⊥
-IsOfReading OutOfMemory = Unit {0}
+-- why bytes weren't read, as it is told here
+abbrev pub walk_refusal : WalkFault → CreateRefusal
+walk_refusal walk.ReadFault = ReadFault
+walk_refusal walk.OutOfMemory = OutOfMemory
 
 -- the bytes of an image that was held
 abbrev pub bytes_in : Result Image CreateRefusal → Result (List ℕ) CreateRefusal
 bytes_in (Ok image) = Ok image.bytes.items
 bytes_in (Err why) = Err why
+
+-- what looking at the image under a name answers, where the desk tells it
+abbrev pub LooksAt : DeskState → List ℕ → Result Image CreateRefusal → Type 0
+LooksAt state name result = IsTrue state.tells → Looks (state.files name) (bytes_in result)

@@ -1,7 +1,7 @@
 //! Making the error correction file of an image on one thread.
-ghost use Rattle.std.specs.Prelude.{◌≡◌, ◌≢◌, ◌≤◌, ◌<◌, Err, IsTrue};
-ghost use Rattle.rs01_outside.specs.DeskState.{OnlyChanges, WorksOn};
-ghost use Rattle.rs01_create.specs.Answer.{Creates, IsOfMaking, Makes, is_read_fault, is_write_fault};
+ghost use Rattle.std.specs.Prelude.{◌≡◌, ◌≢◌, ◌≤◌, ◌<◌, Err};
+ghost use Rattle.rs01_outside.specs.DeskState.{OnlyChanges};
+ghost use Rattle.rs01_create.specs.Answer.{Answers, IsOfMaking, MakesOn, Works, is_write_fault};
 
 use crate::body::body_of;
 use crate::header::head_of_image;
@@ -23,9 +23,7 @@ fn make_file<D: Desk>(
 ) -> Result<CreateReport, CreateRefusal>
     ensures changes { OnlyChanges name.now (D.state desk.old) (D.state desk.new)
         (is_write_fault result) }
-    ensures made { let bytes = image.now.bytes.items in IsTrue (D.state desk.old).tells
-        → Makes bytes image.now.shape.parity name.now (D.state desk.old).files
-        (D.state desk.new).files result }
+    ensures made { MakesOn image.now name.now (D.state desk.old) (D.state desk.new) result }
     ensures causes { IsOfMaking result }
 {
     let body = body_of(alloc, image)?;
@@ -61,11 +59,8 @@ pub fn create_one<D: Desk>(
     requires differ { image.now ≢ ecc.now }
     requires least { 8 ≤ parity }
     requires most { parity ≤ 100 }
-    ensures works { WorksOn ecc.now (D.state desk.old) (D.state desk.new)
-        (is_read_fault result) (is_write_fault result) }
-    ensures answer { IsTrue (D.state desk.old).tells
-        → Creates image.now ecc.now parity (D.state desk.old).files
-        (D.state desk.new).files result }
+    ensures works { Works ecc.now (D.state desk.old) (D.state desk.new) result }
+    ensures answer { Answers image.now ecc.now parity (D.state desk.old) (D.state desk.new) result }
     ensures many { (n : _) → result ≡ Err (CreateRefusal.TooManySectors n) → 16777215 < n }
 {
     let whole = look(alloc, desk, image, parity)?;

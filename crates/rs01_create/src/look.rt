@@ -1,16 +1,14 @@
 //! Looking at an image: whether it is there, can be protected, and what it holds.
-ghost use Rattle.std.specs.Prelude.{◌≡◌, ◌≢◌, ◌<◌, ◌≤◌, Err, IfErr, IfOk, IsTrue, length};
-ghost use Rattle.rs01_outside.specs.DeskState.{InFile, OnlyReads};
-ghost use Rattle.rs01_ecchead.specs.Pieces.{IsPiece};
-ghost use Rattle.rs01_create.specs.Answer.{Looks, is_read_fault};
-ghost use Rattle.rs01_create.specs.Looking.{IsMeasured, IsOfReading, bytes_in};
+ghost use Rattle.std.specs.Prelude.{◌≡◌, ◌≢◌, ◌<◌, ◌≤◌, Err, IfOk};
+ghost use Rattle.rs01_outside.specs.DeskState.{OnlyReads};
+ghost use Rattle.rs01_create.specs.Answer.{is_read_fault};
+ghost use Rattle.rs01_create.specs.Looking.{IsMeasured, LooksAt};
 
 use crate::image::Image;
 use crate::marked::find_marked;
 use crate::refusal::CreateRefusal;
-use rs01_ecchead::read_piece;
+use rs01_ecchead::read_bytes;
 use rs01_layers::{Extent, Shape};
-use rs01_lists::zeroed;
 use rs01_outside::{Desk, Failed};
 use std::alloc::Global;
 
@@ -33,26 +31,6 @@ fn measure(size: u64, parity: u32) -> Result<(Extent, Shape), CreateRefusal>
     }
 }
 
-// Reads a file of this size whole. Where the desk has fewer bytes than it told, zeros stand for the rest.
-fn read_whole<D: Desk>(
-    alloc: Global,
-    desk: &mut D,
-    name: &str,
-    size: usize,
-) -> Result<Vec<u8>, CreateRefusal>
-    ensures reads { OnlyReads (D.state desk.old) (D.state desk.new) (is_read_fault result) }
-    ensures len { IfOk result (λ bytes. length bytes.items ≡ size) }
-    ensures bytes { InFile (D.state desk.old) name.now
-        (λ file. IfOk result (λ bytes. IsPiece file 0 bytes.items)) }
-    ensures causes { IfErr result IsOfReading }
-{
-    let mut bytes = zeroed(alloc, size)?;
-    match read_piece(desk, name, 0, &mut bytes) {
-        Ok(()) => Ok(bytes),
-        Err(Failed) => Err(CreateRefusal::ReadFault),
-    }
-}
-
 // Reads an image that can be protected, or tells why it can't. No file changes.
 pub fn look<D: Desk>(
     alloc: Global,
@@ -63,8 +41,7 @@ pub fn look<D: Desk>(
     requires least { 8 ≤ parity }
     requires most { parity ≤ 100 }
     ensures reads { OnlyReads (D.state desk.old) (D.state desk.new) (is_read_fault result) }
-    ensures answer { IsTrue (D.state desk.old).tells
-        → Looks ((D.state desk.old).files name.now) (bytes_in result) }
+    ensures answer { LooksAt (D.state desk.old) name.now result }
     ensures parity { IfOk result (λ image. image.shape.parity ≡ parity) }
     ensures many { (n : _) → result ≡ Err (CreateRefusal.TooManySectors n) → 16777215 < n }
     ensures never { result ≢ Err CreateRefusal.WriteFault }
@@ -75,7 +52,7 @@ pub fn look<D: Desk>(
         Err(Failed) => return Err(CreateRefusal::ReadFault),
     };
     let (extent, shape) = measure(size, parity)?;
-    let bytes = read_whole(alloc, desk, name, size as usize)?;
+    let bytes = read_bytes(alloc, desk, name, 0, size as usize)?;
     match find_marked(&bytes, &extent) {
         Some(sector) => Err(CreateRefusal::Marker(sector)),
         None => Ok(Image {

@@ -1,6 +1,7 @@
 //! Why no error correction file was made.
 ghost use Rattle.std.specs.Prelude.{◌≡◌};
 
+use rs01_ecchead::WalkFault;
 use std::alloc::AllocError;
 use thiserror::Error;
 
@@ -28,6 +29,19 @@ pub enum CreateRefusal {
     /// Memory ran out.
     #[error("memory ran out")]
     OutOfMemory,
+}
+
+impl From<WalkFault> for CreateRefusal {
+    ghost use Rattle.rs01_create.specs.Looking.{walk_refusal};
+
+    ghost from_gives = { λ of why. why ≡ walk_refusal of };
+
+    fn from(why: WalkFault) -> CreateRefusal {
+        match why {
+            WalkFault::ReadFault => CreateRefusal::ReadFault,
+            WalkFault::OutOfMemory => CreateRefusal::OutOfMemory,
+        }
+    }
 }
 
 impl From<AllocError> for CreateRefusal {

@@ -1,5 +1,7 @@
 -- Parts of a file that stand behind each other.
 use Rattle.std.proofs.Common.{◌≡◌, ℕ, ◌+◌, ◌-◌, ◌*◌, ◌≤◌, List, [], ◌++◌, length, take, drop, replicate, refl, sym, ap, subst, ◌∙◌, arith, append_assoc, append-nil, min}
+use Rattle.std.specs.Prelude.{Option, Some, None}
+use Rattle.std.specs.Option.{option_map, unwrap_or}
 use Rattle.std.proofs.lemmas.List.{take_all, take_min, length-drop, length-take}
 use Rattle.std.proofs.Math.ListN.{drop_of_length-le}
 use Rattle.rs01_outside.specs.Files.{Files, ReadsBytes, bytes_of}
@@ -68,6 +70,14 @@ whole_piece file into at len long piece fits =
 pub whole_file : (file into : List ℕ) → length into ≡ length file → IsPiece file 0 into → into ≡ file
 whole_file file into long piece =
     whole_piece file into 0 (length file) long piece (omega arith) ∙ take_all (length file) file (omega arith)
+
+-- all of a file that was found to have n bytes
+pub whole_under : (o : Option (List ℕ)) (n : ℕ) (bytes : List ℕ) → Some n ≡ option_map length o → length bytes ≡ n → IsPiece (unwrap_or o []) 0 bytes
+    → o ≡ Some bytes
+whole_under None n bytes e long piece = cc
+whole_under (Some file) n bytes e long piece =
+    let same : length file ≡ n = cc in
+    ap (λ (xs : List ℕ). Some xs) (sym (whole_file file bytes (long ∙ sym same) piece))
 
 -- a piece that was read when the files were still the same
 pub piece_then : (f0 f1 : Files) (name into : List ℕ) (at len : ℕ) → f1 ≡ f0 → length into ≡ len → IsPiece (bytes_of f1 name) at into

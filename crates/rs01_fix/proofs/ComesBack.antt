@@ -1,6 +1,6 @@
 -- An image comes back where its error correction file is intact.
-use Rattle.std.proofs.Common.{◌≡◌, ℕ, zero, suc, ◌+◌, ◌-◌, ◌*◌, ◌<◌, ◌≤◌, List, [], ◌∷◌, ◌++◌, length, drop, get_or, refl, sym, ap, subst, ◌∙◌, arith, Bool, true, false, cond, ⊎_elim, mod-lt}
-use Rattle.std.specs.Prelude.{filter, nat_lt, not, ◌&&◌, Option, Some, Result, Ok, Err, IsOkAnd, IsSomeAnd}
+use Rattle.std.proofs.Common.{◌≡◌, ℕ, zero, suc, ◌+◌, ◌-◌, ◌*◌, ◌<◌, ◌≤◌, List, [], ◌++◌, length, drop, get_or, refl, sym, ap, subst, ◌∙◌, arith, Bool, true, false, ⊎_elim, mod-lt}
+use Rattle.std.specs.Prelude.{nat_lt, not, ◌&&◌, Option, Some, Result, Ok, Err, IsOkAnd, IsSomeAnd}
 use Rattle.std.specs.List.{flat_map, range_with_len}
 use Rattle.std.proofs.lemmas.Bool.{cases_Bool, cases_lt, false≢true, le-ltb, lt-ltb}
 use Rattle.std.proofs.lemmas.List.{get_or-take, get_or-drop, length-take, length-drop}
@@ -24,6 +24,7 @@ use Rattle.rs01_repair.specs.Inputs.{flags_at, layer_answer}
 use Rattle.rs01_repair.specs.Intact.{HasTheOthers, IsProtected, Protects, gone_in, is_beyond, is_gone}
 use Rattle.rs01_repair.specs.Restored.{is_restored, restored_at}
 use Rattle.rs01_repair.proofs.CorrectLemmas.{answer_has_blocks, placed_has}
+use Rattle.rs01_repair.proofs.Counts.{same_kept}
 use Rattle.rs01_repair.proofs.HeldLemmas.{present}
 use Rattle.rs01_repair.proofs.InputLemmas.{flag_of_sector}
 use Rattle.rs01_repair.proofs.Intact.{C, N, beyond_answer, is_of_image, protects_says, shape_of, within_answer}
@@ -86,16 +87,6 @@ unfolding is_lost
 lost_where image r c y s is of others below =
     ap (λ b. is_gone (C image r c) y s && not b) (mended_where image r c y s is of others below)
     ∙ and_not_both (is_gone (C image r c) y s) (is_beyond (C image r c) y s)
-
--- tests that agree on neighbouring numbers keep the same ones
-same_kept : (f g : ℕ → Bool) (a n : ℕ) → ((j : ℕ) → j < n → f (a + j) ≡ g (a + j)) → filter f (range_with_len a n) ≡ filter g (range_with_len a n)
-same_kept f g a zero same = refl
-same_kept f g a (suc n) same =
-    let here : f a ≡ g a = ap f (let e : a ≡ a + 0 = omega arith in e) ∙ same 0 (omega arith) ∙ ap g (let e : a + 0 ≡ a = omega arith in e) in
-    let rest = same_kept f g (a + 1) n (λ j l.
-    let place : a + 1 + j ≡ a + suc j = omega arith in
-    ap f place ∙ same (suc j) (omega arith) ∙ ap g (sym place)) in
-    λ i. cond (here i) (a ∷ rest i) (rest i)
 
 -- no piece is left of pieces that are all empty
 all_empty : (f : ℕ → List Strange) (a n : ℕ) → ((j : ℕ) → j < n → f (a + j) ≡ []) → flat_map f (range_with_len a n) ≡ []

@@ -1,12 +1,13 @@
 -- What is answered, from what was found of the two files.
 use Rattle.std.proofs.Common.{◌≡◌, ℕ, List, [], length, refl, sym, ap, subst, ◌∙◌, arith, inl, Bool, true, false, drop, take}
-use Rattle.std.specs.Prelude.{Option, Some, None, Result, Ok, Err, IsOkAnd, IsOk, IsSomeAnd, nat_lt, not, ◌==◌, cond}
+use Rattle.std.specs.Prelude.{Option, Some, None, Result, Ok, Err, IsOkAnd, IsOk, IsSomeAnd, IsTrue, nat_lt, not, ◌==◌, cond}
 use Rattle.std.specs.Option.{unwrap_or}
 use Rattle.std.specs.Str.{bytes_eq}
 use Rattle.md5.specs.Md5.{md5}
 use Rattle.std.proofs.lemmas.Bool.{eqb-true}
 use Rattle.rs01_layers.specs.Layout.{file_size}
-use Rattle.rs01_outside.specs.Files.{Files, SameElsewhere}
+use Rattle.rs01_outside.specs.DeskState.{DeskState, OnlyReads}
+use Rattle.rs01_outside.specs.Files.{Files, SameElsewhere, bytes_of}
 use Rattle.rs01_ecchead.specs.Header.{Fields, head_of}
 use Rattle.rs01_ecchead.specs.declared.head.HeadRefusal.{HeadRefusal}
 use Rattle.rs01_ecchead.specs.Opened.{IsOfFile, Opened, opened, opened_as, opened_by, opened_file, opened_with}
@@ -15,8 +16,11 @@ use Rattle.rs01_ecchead.specs.declared.opened.EccRefusal.TheVariants as ecc
 use Rattle.rs01_ecchead.specs.declared.opened.Which.TheVariants.{Image}
 use Rattle.rs01_report.specs.declared.reports.FixReport.{FixReport}
 use Rattle.rs01_ecchead.specs.declared.opened.Ecc.{Ecc}
+use Rattle.rs01_ecchead.specs.Walked.{walk_refusal}
+use Rattle.rs01_ecchead.specs.declared.walk.WalkFault.{WalkFault}
+use Rattle.rs01_ecchead.specs.declared.walk.WalkFault.TheVariants as walk
 use Rattle.rs01_repair.specs.declared.held.Held.{Held}
-use Rattle.rs01_fix.specs.Steps.{IsHeld}
+use Rattle.rs01_fix.specs.Steps.{HasEcc, IsHeld}
 use Rattle.rs01_fix.specs.Between.{IsBetween}
 use Rattle.rs01_fix.specs.Repair.{fixed, report_of}
 use Rattle.rs01_fix.specs.Answer.{MayStand, Repaired, answer_with, fix_answer, refusal_of, repaired}
@@ -75,6 +79,15 @@ unfolding opened
 opened_size None c e = absurd (let h : ⊥ = cc in h)
 opened_size (Some file) c e =
     size_by_head (head_of (take 4096 file)) file c (size_by_len (nat_lt (length file) 4096) (length file) (opened_with (head_of (take 4096 file)) file) c e)
+
+-- the error correction file is there after a call that only read, as it was when it was opened
+pub ecc_is : (held : Held) (old new : DeskState) (name : List ℕ) → OnlyReads old new false → IsTrue old.tells
+    → opened_file (old.files name) ≡ Ok (opened_as held.ecc (bytes_of old.files name)) → HasEcc held (bytes_of old.files name) new name
+ecc_is held old new name reads t says = record {
+  tells = subst IsTrue (sym reads.tells) t;
+  bytes = ap (λ (f : Files). bytes_of f name) (reads.unchanged t);
+  whole = opened_size (old.files name) (opened_as held.ecc (bytes_of old.files name)) says;
+}
 
 -- the file that wasn't changed may stand
 old_between : (y fixed : List ℕ) → IsBetween y fixed y
@@ -145,21 +158,22 @@ ends_underway image ecc cut old new result why told c y e same of ok there way =
 pub is_ok_answer : (a : Result Repaired FixRefusal) (v : Repaired) → a ≡ Ok v → IsOk a
 is_ok_answer a v e = subst (λ (a : Result Repaired FixRefusal). IsOk a) (sym e) refl
 
--- the ways that holding an image ends: the error correction file isn't opened, the image isn't there, memory lacks, and
--- it is held
+-- a fault of reading is no refusal of the files
+unread : (why : WalkFault) → IsOfFiles (refusal_of (walk_refusal why)) → ⊥
+unread walk.ReadFault of = of
+unread walk.OutOfMemory of = of
+
+-- the ways that holding an image ends: the error correction file isn't opened, the image isn't read, memory lacks, and it
+-- is held
 pub held_unopened : (ecc image : Option (List ℕ)) (result : Result Held FixRefusal) (why : EccRefusal) (told : FixRefusal) → result ≡ Err told → told ≡ refusal_of why
     → (IsOfFile why → opened_file ecc ≡ Err why) → IsHeld ecc image result
 held_unopened ecc image result why told e same h =
     subst (λ (r : Result Held FixRefusal). IsHeld ecc image r) (sym e) (λ cut of. by_ecc ecc image cut why told same of h)
 
-pub held_absent : (f0 f1 : Files) (ecc image : List ℕ) (result : Result Held FixRefusal) (c : Opened) (why told : FixRefusal) → result ≡ Err told → told ≡ why
-    → opened_file (f0 ecc) ≡ Ok c → f1 ≡ f0 → (IsOfFiles why → (f1 image ≡ None) × (why ≡ NoFile Image)) → IsHeld (f0 ecc) (f0 image) result
-held_absent f0 f1 ecc image result c why told e same opened still h =
-    subst (λ (r : Result Held FixRefusal). IsHeld (f0 ecc) (f0 image) r) (sym (e ∙ ap (λ (w : FixRefusal). let r : Result Held FixRefusal = Err w in r) same))
-    (λ cut of.
-    let none = h of in
-    by_no_image (f0 ecc) (f0 image) cut c opened (ap (λ (f : Files). f image) (sym still) ∙ none.0)
-    ∙ ap (λ (w : FixRefusal). let r : Result Repaired FixRefusal = Err w in r) (sym none.1))
+pub held_unread : (ecc image : Option (List ℕ)) (result : Result Held FixRefusal) (why : WalkFault) (told : FixRefusal) → result ≡ Err told
+    → told ≡ refusal_of (walk_refusal why) → IsHeld ecc image result
+held_unread ecc image result why told e same =
+    subst (λ (r : Result Held FixRefusal). IsHeld ecc image r) (sym (e ∙ ap (λ (w : FixRefusal). let r : Result Held FixRefusal = Err w in r) same)) (λ cut of. absurd (unread why of))
 
 pub held_lacking : (ecc image : Option (List ℕ)) (result : Result Held FixRefusal) (told : FixRefusal) → result ≡ Err told → told ≡ OutOfMemory → IsHeld ecc image result
 held_lacking ecc image result told e same =

@@ -1,9 +1,10 @@
 -- What repairing gives where the error correction file is intact, and no sector that was altered has its recorded
 -- checksum. c is what the error correction file says, and the image's file is the list y now.
-use Rattle.std.specs.Prelude.{ℕ, ◌≡◌, ◌<◌, ◌*◌, ◌&&◌, Bool, false, not, List, [], filter, Some, Result, IfOk, IsOkAnd, IsSomeAnd}
+use Rattle.std.specs.Prelude.{ℕ, ◌≡◌, ◌<◌, ◌*◌, ◌&&◌, Bool, false, not, List, [], filter, Some, Result, IfOk, IsOkAnd, IsSomeAnd, IsTrue}
 use Rattle.std.specs.List.{range_with_len}
 use Rattle.rs01_layers.specs.Sectors.{length_of}
 use Rattle.rs01_lists.specs.Bytes.{part}
+use Rattle.rs01_outside.specs.DeskState.{DeskState}
 use Rattle.rs01_outside.specs.Files.{Files}
 use Rattle.rs01_ecchead.specs.Opened.{Opened}
 use Rattle.rs01_report.specs.declared.reports.FixReport.{FixReport}
@@ -44,3 +45,7 @@ abbrev pub GivesBack : (image ecc : List ℕ) → (old new : Files) → Result F
 GivesBack image ecc old new result = (original file y : List ℕ) (r : ℕ) (c : Opened) → old ecc ≡ Some file → old image ≡ Some y
     → Protects file original r c → HasTheOthers original c y
     → IfOk result (λ told. IsSomeAnd (new image) (λ now. ComesBack original c y (record { file = now; report = told })))
+
+-- where the desk tells its files
+abbrev pub BringsBack : (image ecc : List ℕ) → (old new : DeskState) → Result FixReport FixRefusal → Type 0
+BringsBack image ecc old new result = IsTrue old.tells → GivesBack image ecc old.files new.files result

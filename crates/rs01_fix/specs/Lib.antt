@@ -4,4 +4,5 @@ pub mod Progress
 pub mod Answer
 pub mod Outcome
 pub mod Steps
+pub mod Places
 pub mod ComesBack

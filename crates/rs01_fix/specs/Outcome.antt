@@ -1,5 +1,6 @@
 -- What a repair of the image under one name by the error correction file under another leaves and answers.
-use Rattle.std.specs.Prelude.{◌≡◌, ◌≢◌, Bool, true, false, List, ℕ, Result, Ok, Err, IsOkAnd}
+use Rattle.std.specs.Prelude.{◌≡◌, ◌≢◌, Bool, true, false, List, ℕ, Result, Ok, Err, IsOk, IsOkAnd, IsTrue}
+use Rattle.rs01_outside.specs.DeskState.{DeskState, WorksOn}
 use Rattle.rs01_outside.specs.Files.{Becomes, Files}
 use Rattle.rs01_report.specs.declared.reports.FixReport.{FixReport}
 use Rattle.rs01_fix.specs.Answer.{MayStand, Repaired, fix_answer}
@@ -16,25 +17,7 @@ IsOfFiles ReadFault = ⊥
 IsOfFiles WriteFault = ⊥
 IsOfFiles OutOfMemory = ⊥
 
--- a refusal that comes from reading bytes, from reading the image file, and from repairing what was read
-abbrev pub IsOfReading : FixRefusal → Type 0
-IsOfReading (NoFile which) = ⊥
-IsOfReading (Head why) = ⊥
-IsOfReading (Size have want) = ⊥
-IsOfReading (Body have want) = ⊥
-IsOfReading ReadFault = Unit {0}
-IsOfReading WriteFault = ⊥
-IsOfReading OutOfMemory = Unit {0}
-
-abbrev pub IsOfImageFile : FixRefusal → Type 0
-IsOfImageFile (NoFile which) = Unit {0}
-IsOfImageFile (Head why) = ⊥
-IsOfImageFile (Size have want) = ⊥
-IsOfImageFile (Body have want) = ⊥
-IsOfImageFile ReadFault = Unit {0}
-IsOfImageFile WriteFault = ⊥
-IsOfImageFile OutOfMemory = Unit {0}
-
+-- a refusal that comes from repairing what was read
 abbrev pub IsOfRepair : FixRefusal → Type 0
 IsOfRepair (NoFile which) = ⊥
 IsOfRepair (Head why) = ⊥
@@ -81,6 +64,10 @@ abbrev pub is_write_fault : {T : Type 0} → Result T FixRefusal → Bool
 is_write_fault (Ok value) = false
 is_write_fault (Err why) = writes_badly why
 
+-- work on the image under a name, by what it answers
+abbrev pub Works : {T : Type 0} → List ℕ → (old new : DeskState) → Result T FixRefusal → Type 0
+Works name old new result = WorksOn name old new (is_read_fault result) (is_write_fault result)
+
 -- the image file is repaired, nothing else has changed, and what is told is right
 pub record Repairs (image : List ℕ) (old new : Files) (told : FixReport) (repaired : Repaired) : Type 0 where
   pub file : Becomes image repaired.file old new
@@ -97,3 +84,12 @@ pub record Refuses (image ecc : List ℕ) (cut : Bool) (old new : Files) (why : 
 abbrev pub Fixes : (image ecc : List ℕ) → Bool → (old new : Files) → Result FixReport FixRefusal → Type 0
 Fixes image ecc cut old new (Ok told) = IsOkAnd (fix_answer (old ecc) (old image) cut) (Repairs image old new told)
 Fixes image ecc cut old new (Err why) = Refuses image ecc cut old new why
+
+-- where the desk tells its files
+abbrev pub FixesOn : (image ecc : List ℕ) → Bool → (old new : DeskState) → Result FixReport FixRefusal → Type 0
+FixesOn image ecc cut old new result = IsTrue old.tells → Fixes image ecc cut old.files new.files result
+
+-- a write fails only where the files don't forbid the repair
+abbrev pub WritesLast : (image ecc : List ℕ) → Bool → DeskState → Result FixReport FixRefusal → Type 0
+WritesLast image ecc cut old result =
+    IsTrue old.tells → IsTrue (is_write_fault result) → IsOk (fix_answer (old.files ecc) (old.files image) cut)

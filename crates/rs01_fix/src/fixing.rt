@@ -1,18 +1,15 @@
 //! Repairing an image by its error correction file, on one thread.
-ghost use Rattle.std.specs.Prelude.{◌≡◌, ◌≢◌, IfErr, IfOk, IsOk, IsTrue, List, false, is_err, ℕ};
-ghost use Rattle.rs01_outside.specs.DeskState.{OnlyChanges, WorksOn};
-ghost use Rattle.rs01_repair.specs.Holding.{said};
-ghost use Rattle.rs01_fix.specs.Answer.{fix_answer};
-ghost use Rattle.rs01_fix.specs.ComesBack.{GivesBack};
-ghost use Rattle.rs01_fix.specs.Outcome.{Fixes, IsOfRepair, TellsTwo, is_read_fault, is_write_fault};
-ghost use Rattle.rs01_fix.specs.Repair.{report_of};
+ghost use Rattle.std.specs.Prelude.{◌≢◌, IfErr, List, false, is_err, ℕ};
+ghost use Rattle.rs01_outside.specs.DeskState.{OnlyChanges};
+ghost use Rattle.rs01_fix.specs.ComesBack.{BringsBack};
+ghost use Rattle.rs01_fix.specs.Outcome.{FixesOn, IsOfRepair, TellsTwo, Works, WritesLast};
 ghost use Rattle.rs01_fix.specs.Steps.{
-  HasEcc,
-  IsFound,
+  ByEcc,
   IsRepaired,
   IsUnderway,
   Leads,
-  recorded_in,
+  RepairsImage,
+  Tells,
 };
 
 use crate::hold::hold;
@@ -47,15 +44,10 @@ fn repair<D: Desk>(
     cut: bool,
 ) -> Result<FixReport, FixRefusal>
     requires { image.now ≢ ecc.now }
-    ensures works { WorksOn image.now (D.state desk.old) (D.state desk.new)
-        (is_read_fault result) (is_write_fault result) }
-    ensures report { (e : List ℕ) → HasEcc held.now e (D.state desk.old) ecc.now → IfOk result
-        (λ told. told
-        ≡ report_of (said held.now (recorded_in held.now e)) held.now.image.items cut) }
-    ensures put { (e : List ℕ) → HasEcc held.now e (D.state desk.old) ecc.now
-        → let recorded = recorded_in held.now e in
-        Leads (IsFound held.now) (IsRepaired held.now recorded cut)
-        (IsUnderway held.now recorded cut) image.now (D.state desk.old) (D.state desk.new) result }
+    ensures works { Works image.now (D.state desk.old) (D.state desk.new) result }
+    ensures report { Tells held.now cut ecc.now (D.state desk.old) result }
+    ensures put { ByEcc held.now ecc.now (D.state desk.old) (λ recorded. RepairsImage
+        held.now recorded cut image.now (D.state desk.old) (D.state desk.new) result) }
     ensures causes { IfErr result IsOfRepair }
 {
     let repairs = repair_layers(alloc, desk, image, ecc, held)?;
@@ -83,15 +75,10 @@ pub fn fix_one<D: Desk>(
     cut: bool,
 ) -> Result<FixReport, FixRefusal>
     requires { image.now ≢ ecc.now }
-    ensures works { WorksOn image.now (D.state desk.old) (D.state desk.new)
-        (is_read_fault result) (is_write_fault result) }
-    ensures answer { IsTrue (D.state desk.old).tells
-        → Fixes image.now ecc.now cut (D.state desk.old).files (D.state desk.new).files result }
-    ensures comes_back { IsTrue (D.state desk.old).tells
-        → GivesBack image.now ecc.now (D.state desk.old).files (D.state desk.new).files result }
-    ensures write_fault_last { IsTrue (D.state desk.old).tells → IsTrue (is_write_fault result)
-        → IsOk (fix_answer ((D.state desk.old).files ecc.now)
-        ((D.state desk.old).files image.now) cut) }
+    ensures works { Works image.now (D.state desk.old) (D.state desk.new) result }
+    ensures answer { FixesOn image.now ecc.now cut (D.state desk.old) (D.state desk.new) result }
+    ensures comes_back { BringsBack image.now ecc.now (D.state desk.old) (D.state desk.new) result }
+    ensures write_fault_last { WritesLast image.now ecc.now cut (D.state desk.old) result }
     ensures differ { IfErr result TellsTwo }
 {
     let held = hold(alloc, desk, image, ecc)?;

@@ -1,31 +1,32 @@
 //! Reading an image whole, by its error correction file.
-ghost use Rattle.std.specs.Prelude.{◌≡◌, IfErr, IfOk, IsTrue, Some, false};
+ghost use Rattle.std.specs.Prelude.{◌≡◌, IfErr, IfOk, IsTrue, false};
+ghost use Rattle.std.specs.Option.{option_map};
 ghost use Rattle.rs01_outside.specs.DeskState.{OnlyReads};
-ghost use Rattle.rs01_fix.specs.Outcome.{IsOfImageFile, TellsTwo, is_read_fault, is_write_fault};
-ghost use Rattle.rs01_fix.specs.Steps.{IsAbsent, IsHeld};
+ghost use Rattle.rs01_ecchead.specs.Walked.{is_walk_fault};
+ghost use Rattle.rs01_fix.specs.Outcome.{TellsTwo, is_read_fault, is_write_fault};
+ghost use Rattle.rs01_fix.specs.Steps.{IsHeldFrom};
 
-use crate::reading::read_bytes;
 use crate::refusal::FixRefusal;
-use rs01_ecchead::{Which, open_ecc};
-use rs01_outside::{Desk, Failed};
+use rs01_ecchead::{WalkFault, Which, open_ecc, read_bytes};
+use rs01_outside::Desk;
 use rs01_repair::Held;
 use std::alloc::Global;
 
-// The bytes of the image file.
-fn read_image<D: Desk>(alloc: Global, desk: &mut D, name: &str) -> Result<Vec<u8>, FixRefusal>
-    ensures reads { OnlyReads (D.state desk.old) (D.state desk.new) (is_read_fault result) }
-    ensures image { IsTrue (D.state desk.old).tells
-        → IfOk result (λ bytes. (D.state desk.old).files name.now ≡ Some bytes.items) }
-    ensures absent { IsTrue (D.state desk.old).tells
-        → IfErr result (IsAbsent ((D.state desk.old).files name.now)) }
-    ensures causes { IfErr result IsOfImageFile }
+// The bytes of the image file, if it is there.
+fn read_image<D: Desk>(
+    alloc: Global,
+    desk: &mut D,
+    name: &str,
+) -> Result<Option<Vec<u8>>, WalkFault>
+    ensures reads { OnlyReads (D.state desk.old) (D.state desk.new) (is_walk_fault result) }
+    ensures image { IsTrue (D.state desk.old).tells → IfOk result
+        (λ found. (D.state desk.old).files name.now ≡ option_map (λ bytes. bytes.items) found) }
 {
-    let size = match desk.size(name) {
-        Ok(Some(size)) => size,
-        Ok(None) => return Err(FixRefusal::NoFile(Which::Image)),
-        Err(Failed) => return Err(FixRefusal::ReadFault),
+    let Some(size) = desk.size(name)? else {
+        return Ok(None);
     };
-    Ok(read_bytes(alloc, desk, name, 0, size as usize)?)
+    let bytes = read_bytes(alloc, desk, name, 0, size as usize)?;
+    Ok(Some(bytes))
 }
 
 // Opens the error correction file, and reads the image whole. No file changes.
@@ -36,12 +37,14 @@ pub fn hold<D: Desk>(
     ecc: &str,
 ) -> Result<Held, FixRefusal>
     ensures reads { OnlyReads (D.state desk.old) (D.state desk.new) (is_read_fault result) }
-    ensures answer { IsTrue (D.state desk.old).tells
-        → IsHeld ((D.state desk.old).files ecc.now) ((D.state desk.old).files image.now) result }
+    ensures answer { IsHeldFrom ecc.now image.now (D.state desk.old) result }
     ensures causes { is_write_fault result ≡ false }
     ensures differ { IfErr result TellsTwo }
 {
     let opened = open_ecc(alloc, desk, ecc)?;
-    let bytes = read_image(alloc, desk, image)?;
-    Ok(Held::new(alloc, opened, bytes)?)
+    let found = read_image(alloc, desk, image)?;
+    match found {
+        Some(bytes) => Ok(Held::new(alloc, opened, bytes)?),
+        None => Err(FixRefusal::NoFile(Which::Image)),
+    }
 }

@@ -5,7 +5,6 @@ mod fixing;
 mod hold;
 pub mod laws;
 mod places;
-mod reading;
 mod refusal;
 mod repair;
 mod told;

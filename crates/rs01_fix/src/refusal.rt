@@ -1,7 +1,7 @@
 //! Why an image wasn't repaired.
 ghost use Rattle.std.specs.Prelude.{◌≡◌};
 
-use rs01_ecchead::{EccRefusal, HeadRefusal, Which};
+use rs01_ecchead::{EccRefusal, HeadRefusal, WalkFault, Which};
 use std::alloc::AllocError;
 use thiserror::Error;
 
@@ -47,6 +47,17 @@ impl From<EccRefusal> for FixRefusal {
             EccRefusal::ReadFault => FixRefusal::ReadFault,
             EccRefusal::OutOfMemory => FixRefusal::OutOfMemory,
         }
+    }
+}
+
+impl From<WalkFault> for FixRefusal {
+    ghost use Rattle.rs01_ecchead.specs.Walked.{walk_refusal};
+    ghost use Rattle.rs01_fix.specs.Answer.{refusal_of};
+
+    ghost from_gives = { λ of why. why ≡ refusal_of (walk_refusal of) };
+
+    fn from(why: WalkFault) -> FixRefusal {
+        FixRefusal::from(EccRefusal::from(why))
     }
 }
 

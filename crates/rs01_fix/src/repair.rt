@@ -1,26 +1,24 @@
 //! Repairing the layers of an image, one after the other.
-ghost use Rattle.std.specs.Prelude.{◌≡◌, ◌≢◌, ◌+◌, ◌*◌, ◌++◌, ◌∷◌, [], IfErr, IfOk, List, OnOk, length, false, option_to_list, ℕ};
-ghost use Rattle.rs01_layers.specs.Layout.{layers_of};
-ghost use Rattle.rs01_outside.specs.DeskState.{OnlyReads, WorksOn};
-ghost use Rattle.rs01_repair.specs.Holding.{IsLayer, answer_to, fields_in};
-ghost use Rattle.rs01_repair.specs.Inputs.{parity_at};
-ghost use Rattle.rs01_repair.specs.Restored.{NamesSector, is_restored};
-ghost use Rattle.rs01_fix.specs.Outcome.{IsOfReading, IsOfRepair, is_read_fault, is_write_fault};
+ghost use Rattle.std.specs.Prelude.{◌≡◌, ◌≢◌, ◌*◌, IfErr, IfOk, OnOk, length, option_to_list};
+ghost use Rattle.rs01_outside.specs.DeskState.{OnlyReads};
+ghost use Rattle.rs01_ecchead.specs.Walked.{is_walk_fault};
+ghost use Rattle.rs01_repair.specs.Holding.{IsLayer, fields_in, layers_in};
+ghost use Rattle.rs01_repair.specs.Restored.{NamesSector};
+ghost use Rattle.rs01_fix.specs.Outcome.{IsOfRepair, Works};
 ghost use Rattle.rs01_fix.specs.Repair.{strange_in};
 ghost use Rattle.rs01_fix.specs.Steps.{
-  AreKept,
-  HasEcc,
-  IsBefore,
-  IsEitherWay,
-  IsFound,
-  IsRepaired,
-  Leads,
-  recorded_in,
+  Adds,
+  Answers,
+  ByEcc,
+  KeepsAll,
+  ReadsParity,
+  RepairsLayer,
+  RepairsLayers,
 };
 
 use crate::places::put_layer;
-use crate::reading::read_bytes;
 use crate::refusal::FixRefusal;
+use rs01_ecchead::{WalkFault, read_bytes};
 use rs01_layers::LayerOut;
 use rs01_outside::{Desk, Failed};
 use rs01_repair::{Held, answer_layer, layer_is_restored};
@@ -34,13 +32,11 @@ fn read_parity<D: Desk>(
     name: &str,
     held: &Held,
     layer: u32,
-) -> Result<Vec<u8>, FixRefusal>
+) -> Result<Vec<u8>, WalkFault>
     requires { IsLayer held.now layer }
-    ensures reads { OnlyReads (D.state desk.old) (D.state desk.new) (is_read_fault result) }
+    ensures reads { OnlyReads (D.state desk.old) (D.state desk.new) (is_walk_fault result) }
     ensures len { IfOk result (λ parity. length parity.items ≡ 2048 * held.now.ecc.head.parity) }
-    ensures parity { (e : List ℕ) → HasEcc held.now e (D.state desk.old) name.now
-        → IfOk result (λ parity. parity.items ≡ parity_at (recorded_in held.now e) layer) }
-    ensures causes { IfErr result IsOfReading }
+    ensures parity { ReadsParity held.now layer name.now (D.state desk.old) result }
 {
     let shape = held.ecc.shape();
     let size = 2048 * shape.parity() as usize;
@@ -58,15 +54,11 @@ fn repair_layer<D: Desk>(
 ) -> Result<LayerOut, FixRefusal>
     requires differ { image.now ≢ ecc.now }
     requires layer { IsLayer held.now layer }
-    ensures works { WorksOn image.now (D.state desk.old) (D.state desk.new)
-        (is_read_fault result) (is_write_fault result) }
-    ensures answer { (e : List ℕ) → HasEcc held.now e (D.state desk.old) ecc.now
-        → IfOk result (λ answer. answer ≡ answer_to held.now (recorded_in held.now e) layer) }
+    ensures works { Works image.now (D.state desk.old) (D.state desk.new) result }
+    ensures answer { Answers held.now layer ecc.now (D.state desk.old) result }
     ensures names { IfOk result (NamesSector (fields_in held.now) layer) }
-    ensures put { (e : List ℕ) → HasEcc held.now e (D.state desk.old) ecc.now
-        → let recorded = recorded_in held.now e in
-        Leads (IsBefore held.now recorded layer 0) (IsBefore held.now recorded (layer + 1) 0)
-        (IsEitherWay held.now recorded) image.now (D.state desk.old) (D.state desk.new) result }
+    ensures put { ByEcc held.now ecc.now (D.state desk.old) (λ recorded. RepairsLayer
+        held.now recorded layer image.now (D.state desk.old) (D.state desk.new) result) }
     ensures causes { IfErr result IsOfRepair }
 {
     let parity = read_parity(alloc, desk, ecc, held, layer)?;
@@ -110,10 +102,7 @@ impl Repairs {
     fn add(&mut self, held: &Held, layer: u32, answer: &LayerOut) -> Result<(), AllocError>
         requires layer { IsLayer held.now layer }
         requires names { NamesSector (fields_in held.now) layer answer.now }
-        ensures restored { OnOk result (self.new.restored.items
-            ≡ self.old.restored.items ++ is_restored answer.now ∷ []) }
-        ensures strange { OnOk result (self.new.strange.items
-            ≡ self.old.strange.items ++ strange_in (fields_in held.now) layer answer.now) }
+        ensures { OnOk result (Adds held.now layer answer.now self.old self.new) }
     {
         self.restored.push(layer_is_restored(answer))?;
         if let Some(strange) = strange_of(held, layer, answer) {
@@ -132,18 +121,11 @@ pub fn repair_layers<D: Desk>(
     held: &Held,
 ) -> Result<Repairs, FixRefusal>
     requires { image.now ≢ ecc.now }
-    ensures works { WorksOn image.now (D.state desk.old) (D.state desk.new)
-        (is_read_fault result) (is_write_fault result) }
-    ensures len { let n = layers_of held.now.ecc.head.sectors held.now.ecc.head.parity in
-        IfOk result (λ repairs. length repairs.restored.items ≡ n) }
-    ensures kept { (e : List ℕ) → HasEcc held.now e (D.state desk.old) ecc.now
-        → let n = layers_of held.now.ecc.head.sectors held.now.ecc.head.parity in IfOk result
-        (λ repairs. AreKept held.now (recorded_in held.now e) n
-        repairs.restored.items repairs.strange.items) }
-    ensures put { (e : List ℕ) → HasEcc held.now e (D.state desk.old) ecc.now
-        → let recorded = recorded_in held.now e in
-        Leads (IsFound held.now) (IsRepaired held.now recorded false)
-        (IsEitherWay held.now recorded) image.now (D.state desk.old) (D.state desk.new) result }
+    ensures works { Works image.now (D.state desk.old) (D.state desk.new) result }
+    ensures len { IfOk result (λ repairs. length repairs.restored.items ≡ layers_in held.now) }
+    ensures kept { KeepsAll held.now ecc.now (D.state desk.old) result }
+    ensures put { ByEcc held.now ecc.now (D.state desk.old) (λ recorded. RepairsLayers
+        held.now recorded image.now (D.state desk.old) (D.state desk.new) result) }
     ensures causes { IfErr result IsOfRepair }
 {
     let mut repairs = Repairs {

@@ -1,11 +1,9 @@
 //! What is told of a repaired image.
 ghost use Rattle.std.specs.Prelude.{◌≡◌, ◌<◌, ◌&&◌, ◌++◌, ◌∷◌, [], if◌then◌else◌, IfOk, List, OnOk, filter, length, nat_lt, ℕ};
 ghost use Rattle.std.specs.List.{range_with_len};
-ghost use Rattle.rs01_layers.specs.Layout.{layers_of};
 ghost use Rattle.rs01_ecchead.specs.Erased.{image_len, known_of};
-ghost use Rattle.rs01_repair.specs.Holding.{said};
-ghost use Rattle.rs01_fix.specs.Repair.{report_of};
-ghost use Rattle.rs01_fix.specs.Steps.{AreKept, FlagLayers, is_told};
+ghost use Rattle.rs01_repair.specs.Holding.{layers_in};
+ghost use Rattle.rs01_fix.specs.Steps.{AreKept, FlagLayers, IsToldOf, is_told};
 
 use crate::repair::Repairs;
 use rs01_repair::Held;
@@ -28,8 +26,7 @@ fn push_if(list: &mut Vec<u32>, belongs: bool, sector: u32) -> Result<(), AllocE
 // Whether a sector is told as restored, or as lost, by the flags of the restored layers.
 fn belongs(held: &Held, flags: &[bool], restored: bool, sector: u32) -> bool
     requires sector { sector < held.now.ecc.head.sectors }
-    requires layers { length flags.now
-        ≡ layers_of held.now.ecc.head.sectors held.now.ecc.head.parity }
+    requires layers { length flags.now ≡ layers_in held.now }
     ensures { (recorded : ℕ → ℕ → List ℕ) → FlagLayers held.now recorded flags.now
         → result ≡ is_told restored held.now recorded sector }
 {
@@ -44,8 +41,7 @@ fn told_sectors(
     flags: &[bool],
     restored: bool,
 ) -> Result<SectorList, AllocError>
-    requires { length flags.now
-        ≡ layers_of held.now.ecc.head.sectors held.now.ecc.head.parity }
+    requires { length flags.now ≡ layers_in held.now }
     ensures { (recorded : ℕ → ℕ → List ℕ) → FlagLayers held.now recorded flags.now
         → IfOk result (λ list. list ≡ filter (is_told restored held.now recorded)
         (range_with_len 0 held.now.ecc.head.sectors)) }
@@ -72,12 +68,9 @@ pub fn report(
     repairs: Repairs,
     cut: bool,
 ) -> Result<FixReport, AllocError>
-    requires { length repairs.restored.items
-        ≡ layers_of held.now.ecc.head.sectors held.now.ecc.head.parity }
-    ensures { (recorded : ℕ → ℕ → List ℕ)
-        → let n = layers_of held.now.ecc.head.sectors held.now.ecc.head.parity in
-        AreKept held.now recorded n repairs.restored.items repairs.strange.items
-        → IfOk result (λ told. told ≡ report_of (said held.now recorded) held.now.image.items cut) }
+    requires { length repairs.restored.items ≡ layers_in held.now }
+    ensures { (recorded : ℕ → ℕ → List ℕ) → AreKept held.now recorded (layers_in held.now) repairs
+        → IfOk result (IsToldOf held.now recorded cut) }
 {
     let Repairs { restored, strange } = repairs;
     let mended = told_sectors(alloc, held, &restored, true)?;

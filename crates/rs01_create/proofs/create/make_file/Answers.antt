@@ -1,4 +1,4 @@
-use Rattle.std.proofs.Common.{◌≡◌, ◌∙◌, ◌++◌, ap, subst, refl, List, ℕ}
+use Rattle.std.proofs.Common.{◌≡◌, ◌∙◌, ◌++◌, ap, subst, List, ℕ}
 use Rattle.md5.specs.Md5.{md5}
 use Rattle.rs01_layers.specs.Layout.{layers_of}
 use Rattle.rs01_outside.specs.Files.{Files, Becomes}

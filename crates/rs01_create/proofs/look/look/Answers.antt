@@ -25,17 +25,17 @@ returns-in_err-extent-clause-never g c = λ e.
 pub returns-in_err-bytes-clause-answer : goal.returns-in_err-bytes-clause-answer
 returns-in_err-bytes-clause-answer g c = λ t.
     let p = err_from_is_err_and c.from_residual-in_err-bytes.result c.from_residual-in_err-bytes.ensures.1 in
-    looks_read _ _ p.0 _ p.1 p.2 c.in_err-bytes.ensures.causes
+    looks_read _ _ p.0 _ p.1 p.2
 
 pub returns-in_err-bytes-clause-many : goal.returns-in_err-bytes-clause-many
 returns-in_err-bytes-clause-many g c = λ n e.
     let p = err_from_is_err_and c.from_residual-in_err-bytes.result c.from_residual-in_err-bytes.ensures.1 in
-    reading_many _ c.in_err-bytes.ensures.causes n (handed_on _ p.0 _ _ p.1 p.2 e)
+    reading_many _ n (handed_on _ p.0 _ _ p.1 p.2 e)
 
 pub returns-in_err-bytes-clause-never : goal.returns-in_err-bytes-clause-never
 returns-in_err-bytes-clause-never g c = λ e.
     let p = err_from_is_err_and c.from_residual-in_err-bytes.result c.from_residual-in_err-bytes.ensures.1 in
-    reading_never _ c.in_err-bytes.ensures.causes (handed_on _ p.0 _ _ p.1 p.2 e)
+    reading_never _ (handed_on _ p.0 _ _ p.1 p.2 e)
 
 pub returns-in-Some-clause-answer : goal.returns-in-Some-clause-answer
 returns-in-Some-clause-answer g c = λ t.

@@ -4,7 +4,6 @@ use Rattle.std.specs.Option.{unwrap_or}
 use Rattle.std.proofs.Common.{[]}
 use Rattle.std.proofs.lemmas.Result.{on_ok_weaker}
 use Rattle.rs01_layers.specs.Blocks.{blocks_of}
-use Rattle.rs01_layers.specs.Layer.{layer}
 use Rattle.rs01_layers.specs.Outs.{parity_in}
 use Rattle.rs01_layers.specs.declared.input.LayerInput.{LayerInput}
 use Rattle.rs01_layers.specs.declared.task.LayerOut.{LayerOut}

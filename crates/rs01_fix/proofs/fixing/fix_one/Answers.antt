@@ -4,9 +4,8 @@ use Rattle.std.proofs.lemmas.Result.{err_from_is_err_and}
 use Rattle.rs01_outside.specs.Files.{Files, bytes_of}
 use Rattle.rs01_ecchead.specs.Opened.{opened_as}
 use Rattle.rs01_fix.specs.Answer.{repaired}
-use Rattle.rs01_fix.specs.Steps.{HasEcc}
 use Rattle.rs01_fix.proofs.ComesBack.{gives_back}
-use Rattle.rs01_fix.proofs.FileLemmas.{by_both, ends_refused, ends_repaired, ends_underway, is_ok_answer, opened_size}
+use Rattle.rs01_fix.proofs.FileLemmas.{by_both, ecc_is, ends_refused, ends_repaired, ends_underway, is_ok_answer}
 use Rattle.rs01_fix.proofs.fixing.fix_one.Goals as goal
 
 pub returns-in_err-held-clause-answer : goal.returns-in_err-held-clause-answer
@@ -24,11 +23,7 @@ returns-in_err-repair-clause-answer g c = λ t.
     let told = subst IsTrue (sym c.in_ok-held.ensures.reads.tells) t in
     let found = c.in_ok-held.ensures.answer t in
     let p = err_from_is_err_and c.from_residual-in_err-repair.result c.from_residual-in_err-repair.ensures.1 in
-    let has : HasEcc held e (g.D.Desk.state c.hold.new.desk) c.args.ecc.now = record {
-      tells = told;
-      bytes = ap (λ (f : Files). bytes_of f c.args.ecc.now) same;
-      whole = opened_size (f0 c.args.ecc.now) (opened_as held.ecc e) found.0;
-    } in
+    let has = ecc_is held (g.D.Desk.state c.args.desk.now) (g.D.Desk.state c.hold.new.desk) c.args.ecc.now c.in_ok-held.ensures.reads t found.0 in
     ends_underway c.args.image.now c.args.ecc.now c.args.cut f0 _ _ _ p.0 (opened_as held.ecc e) held.image.items p.1 p.2 c.in_err-repair.ensures.causes
     (by_both (f0 c.args.ecc.now) (f0 c.args.image.now) c.args.cut (opened_as held.ecc e) held.image.items found.0 found.1) found.1
     (c.in_err-repair.ensures.put e has told (ap (λ (f : Files). f c.args.image.now) same ∙ found.1))
@@ -41,11 +36,7 @@ returns-clause-answer g c = λ t.
     let same = c.in_ok-held.ensures.reads.unchanged t in
     let told = subst IsTrue (sym c.in_ok-held.ensures.reads.tells) t in
     let found = c.in_ok-held.ensures.answer t in
-    let has : HasEcc held e (g.D.Desk.state c.hold.new.desk) c.args.ecc.now = record {
-      tells = told;
-      bytes = ap (λ (f : Files). bytes_of f c.args.ecc.now) same;
-      whole = opened_size (f0 c.args.ecc.now) (opened_as held.ecc e) found.0;
-    } in
+    let has = ecc_is held (g.D.Desk.state c.args.desk.now) (g.D.Desk.state c.hold.new.desk) c.args.ecc.now c.in_ok-held.ensures.reads t found.0 in
     ends_repaired c.args.image.now c.args.ecc.now c.args.cut f0 _ _ (opened_as held.ecc e) held.image.items
     (by_both (f0 c.args.ecc.now) (f0 c.args.image.now) c.args.cut (opened_as held.ecc e) held.image.items found.0 found.1)
     (c.in_ok-repair.ensures.put e has told (ap (λ (f : Files). f c.args.image.now) same ∙ found.1))

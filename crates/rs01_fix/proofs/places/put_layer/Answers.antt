@@ -1,4 +1,4 @@
-use Rattle.std.proofs.Common.{◌≡◌, ◌+◌, ◌-◌, arith, subst, sym, ℕ}
+use Rattle.std.proofs.Common.{rules, ◌≡◌, ◌+◌, ◌-◌, arith, subst, sym, ℕ}
 use Rattle.std.specs.Prelude.{IsTrue}
 use Rattle.std.proofs.lemmas.Result.{err_from_is_err_and}
 use Rattle.rs01_outside.proofs.States.{changes-then}
@@ -15,18 +15,24 @@ loop-place-preserved g c = record {
       c.in_ok-put_place.ensures.put recorded same (subst IsTrue (sym c.loop-place.invariant.changes.tells) t) (c.loop-place.invariant.stands recorded same t start);
 }
 
-pub returns-in_err-put_place-clause-put : goal.returns-in_err-put_place-clause-put
-returns-in_err-put_place-clause-put g c = λ recorded same.
-    let held = c.args.held.now in
-    let p = err_from_is_err_and c.from_residual.result c.from_residual.ensures.1 in
-    leads_err (IsBefore held recorded c.args.layer 0) (IsBefore held recorded (c.args.layer + 1) 0) (IsEitherWay held recorded) c.args.name.now
-    (g.D.Desk.state c.args.desk.now) (g.D.Desk.state c.put_place.new.desk) _ p.0 p.1 (λ t start.
-    c.in_err-put_place.ensures.put recorded same (subst IsTrue (sym c.loop-place.invariant.changes.tells) t) (c.loop-place.invariant.stands recorded same t start))
+pub returns-in_err-put_place : goal.returns-in_err-put_place
+returns-in_err-put_place g c = record {
+  changes = search rules;
+  put = λ recorded same.
+      let held = c.args.held.now in
+      let p = err_from_is_err_and c.from_residual.result c.from_residual.ensures.1 in
+      leads_err (IsBefore held recorded c.args.layer 0) (IsBefore held recorded (c.args.layer + 1) 0) (IsEitherWay held recorded) c.args.name.now
+      (g.D.Desk.state c.args.desk.now) (g.D.Desk.state c.put_place.new.desk) _ p.0 p.1 (λ t start.
+      c.in_err-put_place.ensures.put recorded same (subst IsTrue (sym c.loop-place.invariant.changes.tells) t) (c.loop-place.invariant.stands recorded same t start));
+}
 
-pub returns-clause-put : goal.returns-clause-put
-returns-clause-put g c = λ recorded same t start.
-    let held = c.args.held.now in
-    let all : c.loop-place.place ≡ 255 - held.ecc.head.parity = omega arith in
-    layer_done (said held recorded) held.image.items (answer_to held recorded) c.args.layer ((g.D.Desk.state c.loop-place.desk).files c.args.name.now) (is_image held recorded)
-    (subst (λ (p : ℕ). IsBefore held recorded c.args.layer p ((g.D.Desk.state c.loop-place.desk).files c.args.name.now)) all
-    (c.loop-place.invariant.stands recorded same t start))
+pub returns : goal.returns
+returns g c = record {
+  changes = search rules;
+  put = λ recorded same t start.
+      let held = c.args.held.now in
+      let all : c.loop-place.place ≡ 255 - held.ecc.head.parity = omega arith in
+      layer_done (said held recorded) held.image.items (answer_to held recorded) c.args.layer ((g.D.Desk.state c.loop-place.desk).files c.args.name.now) (is_image held recorded)
+      (subst (λ (p : ℕ). IsBefore held recorded c.args.layer p ((g.D.Desk.state c.loop-place.desk).files c.args.name.now)) all
+      (c.loop-place.invariant.stands recorded same t start));
+}

@@ -38,7 +38,7 @@ returns-clause-kept g c = λ e has.
     let held = c.args.held.now in
     let all = (let end : c.loop-layer.layer ≡ c.layers-layer-end.result = omega arith in end) ∙ c.layers-layer-end.ensures.value
     ∙ (λ i. layers_of (c.shape.ensures.sectors i) (c.shape.ensures.parity i)) in
-    subst (λ (l : ℕ). AreKept held (recorded_in held e) l c.loop-layer.repairs.restored.items c.loop-layer.repairs.strange.items) all (c.loop-layer.invariant.kept e has)
+    subst (λ (l : ℕ). AreKept held (recorded_in held e) l c.loop-layer.repairs) all (c.loop-layer.invariant.kept e has)
 
 pub returns-clause-put : goal.returns-clause-put
 returns-clause-put g c = λ e has t start.
