@@ -1,5 +1,5 @@
 mod Numbers
-mod Places
+pub mod Places
 mod Told
 mod Tries
 mod Walk

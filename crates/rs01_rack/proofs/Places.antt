@@ -29,13 +29,13 @@ at_set state old place b b' P inside was holds =
     let new_there : slice_get (set old place b') place ≡ Some b' = slice_get-get_or (set old place b') place b' new_long ∙ ap Some (get_or-set_same old place b' b' inside) in
     at_place state old (set old place b') place b b' P old_there new_there holds
 
-slice_get-take : {X : Type 0} (xs : List X) (n k : ℕ) → k < n → slice_get (take n xs) k ≡ slice_get xs k
+pub slice_get-take : {X : Type 0} (xs : List X) (n k : ℕ) → k < n → slice_get (take n xs) k ≡ slice_get xs k
 slice_get-take xs zero k less = absurd (omega (arith, less))
 slice_get-take [] (suc n) k less = refl
 slice_get-take (x ∷ xs) (suc n) zero less = refl
 slice_get-take (x ∷ xs) (suc n) (suc k) less = slice_get-take xs n k (omega (arith, less))
 
-slice_get-drop : {X : Type 0} (xs : List X) (n k : ℕ) → slice_get (drop n xs) k ≡ slice_get xs (n + k)
+pub slice_get-drop : {X : Type 0} (xs : List X) (n k : ℕ) → slice_get (drop n xs) k ≡ slice_get xs (n + k)
 slice_get-drop xs zero k = ap (slice_get xs) (let e : k ≡ 0 + k = omega arith in e)
 slice_get-drop [] (suc n) k = sym (slice_get_past [] (suc n + k) (omega arith))
 slice_get-drop (x ∷ xs) (suc n) k = slice_get-drop xs n k ∙ ap (slice_get (x ∷ xs)) (let e : suc (n + k) ≡ suc n + k = omega arith in e)

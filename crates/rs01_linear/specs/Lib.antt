@@ -1,0 +1,3 @@
+pub mod Racks
+pub mod Lasting
+pub mod Asking
