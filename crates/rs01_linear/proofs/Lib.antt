@@ -1,2 +1,4 @@
 mod AskLemmas
+mod CountLemmas
 pub mod LastingLemmas
+mod MediumLemmas

@@ -1,3 +1,5 @@
 pub mod Racks
 pub mod Lasting
 pub mod Asking
+pub mod Refusal
+pub mod Medium

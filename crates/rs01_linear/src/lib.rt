@@ -2,5 +2,11 @@
 #![tactic(auto)]
 
 mod asking;
+mod medium;
+mod opening;
+mod refusal;
 
 pub use asking::{Asked, ask_sector};
+pub use medium::Medium;
+pub use opening::open_medium;
+pub use refusal::ReadRefusal;

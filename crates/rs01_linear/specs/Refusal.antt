@@ -1,0 +1,66 @@
+-- Why a medium wasn't read.
+use Rattle.std.specs.Prelude.{Bool, false, true, Result, Ok, Err}
+use Rattle.rs01_ecchead.specs.Opened.{IsOfFile}
+use Rattle.rs01_ecchead.specs.declared.opened.EccRefusal.{EccRefusal}
+use Rattle.rs01_ecchead.specs.declared.opened.EccRefusal.TheVariants as ecc
+use Rattle.rs01_ecchead.specs.declared.walk.WalkFault.{WalkFault}
+use Rattle.rs01_ecchead.specs.declared.walk.WalkFault.TheVariants as walk
+use Rattle.rs01_linear.specs.declared.refusal.ReadRefusal.{ReadRefusal}
+use Rattle.rs01_linear.specs.declared.refusal.ReadRefusal.TheVariants.{DriveSize, Ecc, OutOfMemory, Rack, ReadFault, WriteFault}
+
+-- the refusal of an error correction file, as it is told here: a fault and want of memory are told as such
+abbrev pub refusal_of : EccRefusal → ReadRefusal
+refusal_of ecc.NoFile = Ecc ecc.NoFile
+refusal_of (ecc.Head why) = Ecc (ecc.Head why)
+refusal_of (ecc.Size have want) = Ecc (ecc.Size have want)
+refusal_of (ecc.Body have want) = Ecc (ecc.Body have want)
+refusal_of ecc.ReadFault = ReadFault
+refusal_of ecc.OutOfMemory = OutOfMemory
+
+-- what ended the walk over the image, as it is told here
+abbrev pub walk_refusal : WalkFault → ReadRefusal
+walk_refusal walk.ReadFault = ReadFault
+walk_refusal walk.OutOfMemory = OutOfMemory
+
+-- whether a reading ended since reading a file failed, and since writing one did
+abbrev pub reads_badly : ReadRefusal → Bool
+reads_badly (Ecc why) = false
+reads_badly (Rack why) = false
+reads_badly (DriveSize n) = false
+reads_badly ReadFault = true
+reads_badly WriteFault = false
+reads_badly OutOfMemory = false
+
+abbrev pub writes_badly : ReadRefusal → Bool
+writes_badly (Ecc why) = false
+writes_badly (Rack why) = false
+writes_badly (DriveSize n) = false
+writes_badly ReadFault = false
+writes_badly WriteFault = true
+writes_badly OutOfMemory = false
+
+abbrev pub is_read_fault : {T : Type 0} → Result T ReadRefusal → Bool
+is_read_fault (Ok value) = false
+is_read_fault (Err why) = reads_badly why
+
+abbrev pub is_write_fault : {T : Type 0} → Result T ReadRefusal → Bool
+is_write_fault (Ok value) = false
+is_write_fault (Err why) = writes_badly why
+
+-- a refusal that comes from the error correction file or from the drives, and from no fault or want of memory
+abbrev pub IsOfMedium : ReadRefusal → Type 0
+IsOfMedium (Ecc why) = Unit {0}
+IsOfMedium (Rack why) = Unit {0}
+IsOfMedium (DriveSize n) = Unit {0}
+IsOfMedium ReadFault = ⊥
+IsOfMedium WriteFault = ⊥
+IsOfMedium OutOfMemory = ⊥
+
+-- a refusal that comes from opening an error correction file: never a fault or want of memory inside the file's refusal
+abbrev pub IsOfOpening : ReadRefusal → Type 0
+IsOfOpening (Ecc why) = IsOfFile why
+IsOfOpening (Rack why) = ⊥
+IsOfOpening (DriveSize n) = ⊥
+IsOfOpening ReadFault = Unit {0}
+IsOfOpening WriteFault = ⊥
+IsOfOpening OutOfMemory = Unit {0}

@@ -1,0 +1,81 @@
+//! Opening a medium.
+ghost use Rattle.std.specs.Prelude.{◌≤◌, IfErr, IsTrue, length};
+ghost use Rattle.std.specs.Option.{option_map};
+ghost use Rattle.rs01_outside.specs.DeskState.{OnlyReads};
+ghost use Rattle.rs01_rack.specs.Rack.{AllTell, views_of};
+ghost use Rattle.rs01_linear.specs.Medium.{Finds, IsFound, MakesMedium, OpensGiven};
+ghost use Rattle.rs01_linear.specs.Racks.{seen_by};
+ghost use Rattle.rs01_linear.specs.Refusal.{IsOfOpening, is_read_fault};
+
+use crate::medium::Medium;
+use crate::refusal::ReadRefusal;
+use rs01_ecchead::{Ecc, open_ecc};
+use rs01_layers::Extent;
+use rs01_outside::{Desk, Drive};
+use rs01_rack::Rack;
+use std::alloc::Global;
+
+// Opens the error correction file, where one is given.
+fn open_given<D: Desk>(
+    alloc: Global,
+    desk: &mut D,
+    ecc: Option<&str>,
+) -> Result<Option<Ecc>, ReadRefusal>
+    ensures reads { OnlyReads (D.state desk.old) (D.state desk.new) (is_read_fault result) }
+    ensures told { IsTrue (D.state desk.old).tells
+        → OpensGiven (option_map (λ name. (D.state desk.old).files name.now) ecc.entry) result }
+    ensures causes { IfErr result IsOfOpening }
+{
+    let Some(name) = ecc else {
+        return Ok(None);
+    };
+    Ok(Some(open_ecc(alloc, desk, name)?))
+}
+
+// The medium of an opened error correction file, or else of so many sectors.
+fn medium_of(ecc: Option<Ecc>, number: u32) -> Result<Medium, ReadRefusal>
+    ensures { MakesMedium ecc number result }
+{
+    match ecc {
+        Some(ecc) => Ok(Medium {
+            extent: ecc.extent(),
+            ecc: Some(ecc),
+        }),
+        None => {
+            if number == 0 || number > 16_777_215 {
+                return Err(ReadRefusal::DriveSize(number));
+            }
+            Ok(Medium {
+                extent: Extent {
+                    sectors: number,
+                    last_bytes: 2048,
+                },
+                ecc: None,
+            })
+        }
+    }
+}
+
+/// Opens a medium: its error correction file, where one is given, and then the number of sectors that its drives agree
+/// on. Without a file that number says how far the medium goes, and with one it isn't compared.
+///
+/// The refusals come in this order: those of the file, those of the drives, and without a file a number of sectors that
+/// is 0 or above 16,777,215. No file changes, and no sector is asked for. Every rack meets the condition.
+pub fn open_medium<D: Desk>(
+    alloc: Global,
+    desk: &mut D,
+    ecc: Option<&str>,
+    rack: &mut Rack,
+) -> Result<Medium, ReadRefusal>
+    requires few { length rack.old.drives.items ≤ 65536 }
+    ensures reads { OnlyReads (D.state desk.old) (D.state desk.new) (is_read_fault result) }
+    ensures asked { Finds result (seen_by ⟦<dyn Drive as Drive>⟧ rack.old)
+        (seen_by ⟦<dyn Drive as Drive>⟧ rack.new) }
+    ensures told { IsTrue (D.state desk.old).tells → AllTell (seen_by ⟦<dyn Drive as Drive>⟧ rack.new)
+        → IsFound (option_map (λ name. (D.state desk.old).files name.now) ecc.entry)
+        (views_of (seen_by ⟦<dyn Drive as Drive>⟧ rack.old)) result }
+{
+    let opened = open_given(alloc, desk, ecc)?;
+    let number = rack.sectors()?;
+    medium_of(opened, number)
+}
