@@ -1,4 +1,5 @@
 mod AskLemmas
 mod CountLemmas
+mod JudgeLemmas
 pub mod LastingLemmas
 mod MediumLemmas

@@ -2,11 +2,14 @@
 #![tactic(auto)]
 
 mod asking;
+mod fate;
+mod judging;
 mod medium;
 mod opening;
 mod refusal;
 
 pub use asking::{Asked, ask_sector};
+pub use fate::Fate;
 pub use medium::Medium;
 pub use opening::open_medium;
 pub use refusal::ReadRefusal;
