@@ -47,5 +47,5 @@ rows_at n (row ∷ later) (suc i) k e w hi hk =
     let wide = and_parts (eqb (length row) 256) (all_have 256 later) w in
     rows_at (8 + n) later i k both.1 wide.1 (omega arith) hk ∙ ap (λ m. after_zeros m k) (let a : 8 * i + (8 + n) ≡ 8 * suc i + n = omega arith in a)
 
-pub table_at : (i k : ℕ) → i < 8 → k < 256 → get_or (get_or AFTER_ZEROS i []) k 0 ≡ after_zeros (8 * (i + 1)) k
+pub table_at : (i k : ℕ) → i < 16 → k < 256 → get_or (get_or AFTER_ZEROS i []) k 0 ≡ after_zeros (8 * (i + 1)) k
 table_at i k hi hk = rows_at 8 AFTER_ZEROS i k rows_test width_test hi hk ∙ ap (λ m. after_zeros m k) (let a : 8 * i + 8 ≡ 8 * (i + 1) = omega arith in a)

@@ -180,6 +180,25 @@ eight_bytes s s0 s1 s2 s3 b0 b1 b2 b3 b4 b5 b6 b7 e h0 h1 h2 small =
     ap (λ x. bit_xor x far) parts ∙ xor_assoc (after_zeros 64 s) near far ∙ ap (bit_xor (after_zeros 64 s)) nested
     ∙ sym (after_bytes-gathered (b0 ∷ b1 ∷ b2 ∷ b3 ∷ b4 ∷ b5 ∷ b6 ∷ b7 ∷ []) s small)
 
+-- more zero bits
+pub further : (m n p x : ℕ) → p ≡ n + m → after_zeros p x ≡ after_zeros m (after_zeros n x)
+further m n p x e = ap (λ k. after_zeros k x) e ∙ after_zeros-add n m x
+
+-- four numbers, added behind zero bits or before
+pub sum_of_four : (m a b c d : ℕ)
+    → bit_xor (after_zeros m a) (bit_xor (after_zeros m b) (bit_xor (after_zeros m c) (after_zeros m d)))
+    ≡ after_zeros m (bit_xor a (bit_xor b (bit_xor c d)))
+sum_of_four m a b c d =
+    ap (λ y. bit_xor (after_zeros m a) (bit_xor (after_zeros m b) y)) (sym (after_zeros-xor m c d))
+    ∙ ap (bit_xor (after_zeros m a)) (sym (after_zeros-xor m b (bit_xor c d)))
+    ∙ sym (after_zeros-xor m a (bit_xor b (bit_xor c d)))
+
+-- zero bits make nothing of zero
+zeros_of_zero : (n : ℕ) → after_zeros n 0 ≡ 0
+unfolding after_zeros
+zeros_of_zero zero = refl
+zeros_of_zero (suc n) = zeros_of_zero n
+
 pub after_bytes-append : (xs ys : List ℕ) (s : ℕ) → after_bytes s (xs ++ ys) ≡ after_bytes (after_bytes s xs) ys
 unfolding after_bytes
 after_bytes-append [] ys s = refl
@@ -212,3 +231,15 @@ eight_of xs h =
     at (suc (suc (suc (suc (suc (suc zero)))))) h = refl
     at (suc (suc (suc (suc (suc (suc (suc zero))))))) h = refl
     at (suc (suc (suc (suc (suc (suc (suc (suc k)))))))) h = absurd (omega arith)
+
+-- the number after two pieces, from what each leads to
+pub two_pieces : (xs ys : List ℕ) (s : ℕ) → ((k : ℕ) → get_or ys k 0 < 256)
+    → bit_xor (after_zeros (8 * length ys) (after_bytes s xs)) (after_bytes 0 ys) ≡ after_bytes s (xs ++ ys)
+two_pieces xs ys s small =
+    let alone : after_bytes 0 ys ≡ gathered ys =
+    after_bytes-gathered ys 0 small ∙ ap (λ x. bit_xor x (gathered ys)) (zeros_of_zero (8 * length ys)) ∙ xor_zero_l (gathered ys) in
+    ap (bit_xor (after_zeros (8 * length ys) (after_bytes s xs))) alone
+    ∙ sym (after_bytes-gathered ys (after_bytes s xs) small) ∙ sym (after_bytes-append xs ys s)
+  where
+    xor_zero_l : (x : ℕ) → bit_xor 0 x ≡ x
+    xor_zero_l x = xor_comm 0 x ∙ xor_zero_r x

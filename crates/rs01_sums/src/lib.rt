@@ -8,7 +8,7 @@ pub mod sums;
 mod tables;
 pub mod usability;
 
-pub use checksum::{crc32, crc32_of_two};
+pub use checksum::crc32;
 pub use markers::{is_marker, marker};
 pub use sums::Sums;
 pub use usability::usable;
