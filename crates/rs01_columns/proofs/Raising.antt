@@ -1,7 +1,7 @@
 -- Sixteen more bytes of a column have taken four products.
-use Rattle.std.proofs.Common.{◌≡◌, ℕ, ◌+◌, ◌-◌, ◌*◌, ◌<◌, ◌≤◌, List, get_or, arith, length, subst, ◌∙◌, sym, ⊎_elim}
+use Rattle.std.proofs.Common.{◌≡◌, ℕ, ◌+◌, ◌-◌, ◌*◌, ◌<◌, ◌≤◌, List, get_or, arith, length, ◌∙◌, sym, ⊎_elim}
 use Rattle.std.proofs.lemmas.Bool.{cases_lt}
-use Rattle.rs01_columns.specs.Fours.{AreApart, AreBothRaised, AreRaised, BothTakeFour, IsApart, OnlyInBoth, both_on, places_on, raised_by}
+use Rattle.rs01_columns.specs.Fours.{AreApart, AreBothRaised, AreRaised, BothTakeFour, IsApart, OnlyInBoth, places_on, raised_by}
 use Rattle.rs01_columns.specs.Ranges.{SameBefore, SameBetween, SameFrom}
 use Rattle.rs01_columns.specs.declared.adding.FourPlaces.{FourPlaces}
 use Rattle.rs01_columns.specs.declared.adding.FourTables.{FourTables}
@@ -75,31 +75,30 @@ all_kept_twice first now one other i p order below apart apart_too before betwee
   four = kept_twice first now one other p.four i order below apart.four apart_too.four before between after;
 }
 
+-- both places so many bytes on
+abbrev pub both_on : TwoPlaces → ℕ → TwoPlaces
+both_on into on = record { first = into.first + on; second = into.second + on }
+
 -- sixteen more bytes of two columns have taken four products each
-pub both_more : (t : EightTables) (first now next : List ℕ) (p q : FourPlaces) (into on : TwoPlaces) (i : ℕ) → i < 64 → BothTakeFour (length first) into p
-    → q ≡ places_on p (16 * i) → on ≡ both_on into (16 * i)
-    → AreBothRaised first now t p into (16 * i) → OnlyInBoth first now into (16 * i)
-    → AreBothRaised now next t q on 16 → OnlyInBoth now next on 16
+pub both_more : (t : EightTables) (first now next : List ℕ) (p q : FourPlaces) (into : TwoPlaces) (i : ℕ) → i < 64 → BothTakeFour (length first) into p
+    → q ≡ places_on p (16 * i) → AreBothRaised first now t p into (16 * i) → OnlyInBoth first now into (16 * i)
+    → AreBothRaised now next t q (both_on into (16 * i)) 16 → OnlyInBoth now next (both_on into (16 * i)) 16
     → AreBothRaised first next t p into (16 * (i + 1))
-both_more t first now next p q into on i below fit at at_both done kept here rest =
+both_more t first now next p q into i below fit at done kept here rest =
     let order : into.first + 1024 ≤ into.second = fit.room.order in
-    let there : AreBothRaised now next t q (both_on into (16 * i)) 16 = subst (λ o. AreBothRaised now next t q o 16) at_both here in
-    let only : OnlyInBoth now next (both_on into (16 * i)) 16 = subst (λ o. OnlyInBoth now next o 16) at_both rest in
     let all : AllKept first now p = all_kept_twice first now into.first into.second i p order below fit.apart fit.apart_too kept.before kept.between kept.after in
     record {
       first = more t.low first now next p q into.first i below at done.first (λ k g h. kept.between (into.first + k) (omega arith) (omega (arith, order))) all
-          there.first (λ k h. only.before (into.first + k) (omega arith));
+          here.first (λ k h. rest.before (into.first + k) (omega arith));
       second = more t.high first now next p q into.second i below at done.second (λ k g h. kept.after (into.second + k) (omega arith)) all
-          there.second (λ k h. only.between (into.second + k) (omega (arith, order, below)) (omega arith));
+          here.second (λ k h. rest.between (into.second + k) (omega (arith, order, below)) (omega arith));
     }
 
 -- and nothing else has changed
-pub both_rest : (first now next : List ℕ) (into on : TwoPlaces) (i : ℕ) → i < 64 → into.first + 1024 ≤ into.second → on ≡ both_on into (16 * i)
-    → OnlyInBoth first now into (16 * i) → OnlyInBoth now next on 16 → OnlyInBoth first next into (16 * (i + 1))
-both_rest first now next into on i below order at kept rest =
-    let only : OnlyInBoth now next (both_on into (16 * i)) 16 = subst (λ o. OnlyInBoth now next o 16) at rest in
-    record {
-      before = λ k h. only.before k (omega arith) ∙ kept.before k h;
-      between = λ k g h. only.between k (omega arith) (omega arith) ∙ kept.between k (omega arith) h;
-      after = λ k h. only.after k (omega arith) ∙ kept.after k (omega arith);
-    }
+pub both_rest : (first now next : List ℕ) (into : TwoPlaces) (i : ℕ) → i < 64 → into.first + 1024 ≤ into.second
+    → OnlyInBoth first now into (16 * i) → OnlyInBoth now next (both_on into (16 * i)) 16 → OnlyInBoth first next into (16 * (i + 1))
+both_rest first now next into i below order kept rest = record {
+  before = λ k h. rest.before k (omega arith) ∙ kept.before k h;
+  between = λ k g h. rest.between k (omega arith) (omega arith) ∙ kept.between k (omega arith) h;
+  after = λ k h. rest.after k (omega arith) ∙ kept.after k (omega arith);
+}

@@ -35,9 +35,6 @@ pub record ArePlacesOf (p : FourPlaces) (s : FourSteps) : Type 0 where
 abbrev pub places_on : FourPlaces → ℕ → FourPlaces
 places_on p on = record { one = p.one + on; two = p.two + on; three = p.three + on; four = p.four + on }
 
-abbrev pub both_on : TwoPlaces → ℕ → TwoPlaces
-both_on into on = record { first = into.first + on; second = into.second + on }
-
 -- each four lanes are the bytes from the four places on
 pub record AreAt (bank : List ℕ) (p : FourPlaces) (v : FourSixteens) : Type 0 where
   pub one : HasLanes v.one (λ k. slice_index bank (p.one + k))

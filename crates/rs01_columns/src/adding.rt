@@ -3,7 +3,7 @@
 ghost use Rattle.std.specs.Prelude.{◌≡◌, ℕ, ◌+◌, ◌*◌, ◌/◌, ◌%◌, ◌<◌, ◌≤◌, length, slice_index, bit_xor};
 ghost use Rattle.rs01_columns.specs.Lanes.{HasLanes, HoldsProducts};
 ghost use Rattle.rs01_columns.specs.Ranges.{HasAdded, IsRaised, OnlyHere};
-ghost use Rattle.rs01_columns.specs.Fours.{AreAt, AreBothRaised, AreRaised, AreTablesOf, BothTakeFour, HasRoom, HasRoomForBoth, OnlyInBoth, TakesFour, both_on, places_on, raised_by};
+ghost use Rattle.rs01_columns.specs.Fours.{AreAt, AreBothRaised, AreRaised, AreTablesOf, BothTakeFour, HasRoom, HasRoomForBoth, OnlyInBoth, TakesFour, places_on, raised_by};
 
 use crate::products::Products;
 use crate::program::FourSteps;
@@ -187,18 +187,6 @@ fn eight_block(bank: &mut [u8], into: TwoPlaces, from: FourPlaces, tables: Eight
     store(bank, into.second, add_four_products(there, tables.high, v));
 }
 
-// The two places so many bytes on.
-#[inline(always)]
-fn both_moved(into: TwoPlaces, on: usize, len: usize) -> TwoPlaces
-    requires { HasRoomForBoth len on into }
-    ensures { result ≡ both_on into on }
-{
-    TwoPlaces {
-        first: into.first + on,
-        second: into.second + on,
-    }
-}
-
 /// Adds multiples of four columns of a bank to two that lie apart.
 pub fn add_eight(bank: &mut [u8], into: TwoPlaces, from: FourPlaces, tables: EightTables)
     requires places { BothTakeFour (length bank.old) into from }
@@ -208,11 +196,10 @@ pub fn add_eight(bank: &mut [u8], into: TwoPlaces, from: FourPlaces, tables: Eig
     let len = bank.len();
     for i in 0..64usize {
         let on = 16 * i;
-        eight_block(
-            bank,
-            both_moved(into, on, len),
-            moved(from, on, len),
-            tables,
-        );
+        let here = TwoPlaces {
+            first: into.first + on,
+            second: into.second + on,
+        };
+        eight_block(bank, here, moved(from, on, len), tables);
     }
 }

@@ -75,9 +75,8 @@ pub fn fill_places(
     ensures { SameOutside blocks.old blocks.new erased.now }
 {
     let steps = restoring_steps(alloc, erased)?;
-    let program = match Program::new(steps, 255 + erased.len()) {
-        Some(program) => program,
-        None => return Ok(()),
+    let Some(program) = Program::new(steps, 255 + erased.len()) else {
+        return Ok(());
     };
     let mut bank = zeroed(alloc, 1088 * program.columns)?;
     fill_part(&program, products, r, blocks, parity, erased, 0, &mut bank);

@@ -55,9 +55,9 @@ impl LayerEncoder {
         ensures { IfOk result (λ made. IfSome made (λ encoder. encoder ≡ r)) }
     {
         let steps = encoding_steps(alloc, r as u16)?;
-        let kept = match KeptProgram::new(alloc, r as usize, 255 + 3 * r as usize, steps)? {
-            Some(kept) => kept,
-            None => return Ok(None),
+        let columns = 255 + 3 * r as usize;
+        let Some(kept) = KeptProgram::new(alloc, r as usize, columns, steps)? else {
+            return Ok(None);
         };
         if encodes(alloc, &kept)? {
             Ok(Some(LayerEncoder { kept }))

@@ -133,9 +133,9 @@ impl LayerSyndromes {
         ensures { IfOk result (λ made. IfSome made (λ test. test ≡ r)) }
     {
         let steps = evaluating_steps(alloc, r as u16)?;
-        let kept = match KeptProgram::new(alloc, r as usize, 255 + r as usize, steps)? {
-            Some(kept) => kept,
-            None => return Ok(None),
+        let columns = 255 + r as usize;
+        let Some(kept) = KeptProgram::new(alloc, r as usize, columns, steps)? else {
+            return Ok(None);
         };
         if evaluates(alloc, &kept)? {
             Ok(Some(LayerSyndromes { kept }))

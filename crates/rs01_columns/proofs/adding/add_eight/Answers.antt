@@ -12,7 +12,7 @@ loop-i-preserved c =
     let few : c.loop-i.i < 64 = omega arith in
     record {
       long = c.eight_block.auto.bank ∙ v.long;
-      here = both_more c.args.tables first now next c.args.from c.moved.result c.args.into c.both_moved.result c.loop-i.i few
-          c.requires.places c.moved.ensures c.both_moved.ensures v.here v.rest b.here b.rest;
-      rest = both_rest first now next c.args.into c.both_moved.result c.loop-i.i few c.requires.places.room.order c.both_moved.ensures v.rest b.rest;
+      here = both_more c.args.tables first now next c.args.from c.moved.result c.args.into c.loop-i.i few
+          c.requires.places c.moved.ensures v.here v.rest b.here b.rest;
+      rest = both_rest first now next c.args.into c.loop-i.i few c.requires.places.room.order v.rest b.rest;
     }
