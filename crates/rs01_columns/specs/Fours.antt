@@ -1,15 +1,15 @@
 -- Four products that are added together, to one column or to two.
 use Rattle.std.specs.Prelude.{◌≡◌, ℕ, ◌+◌, ◌*◌, ◌<◌, ◌≤◌, ◌⊎◌, List, bit_xor, slice_index}
 use Rattle.rs01_gf256.specs.Field.{times}
+use Rattle.rs01_columns.specs.Lanes.{HasLanes}
 use Rattle.rs01_columns.specs.Ranges.{SameBetween}
 pub use Rattle.rs01_columns.specs.Ranges.{SameBefore, SameFrom}
+use Rattle.rs01_columns.specs.declared.adding.EightTables.{EightTables}
 use Rattle.rs01_columns.specs.declared.adding.FourPlaces.{FourPlaces}
-use Rattle.rs01_columns.specs.Lanes.{HasLanes}
-use Rattle.rs01_columns.specs.declared.sixteen.FourSixteens.{FourSixteens}
 use Rattle.rs01_columns.specs.declared.adding.FourTables.{FourTables}
 use Rattle.rs01_columns.specs.declared.adding.TwoPlaces.{TwoPlaces}
 use Rattle.rs01_columns.specs.declared.program.FourSteps.{FourSteps}
-use Rattle.rs01_columns.specs.declared.adding.EightTables.{EightTables}
+use Rattle.rs01_columns.specs.declared.sixteen.FourSixteens.{FourSixteens}
 
 -- only so many bytes from each of two places on may have changed
 pub record OnlyInBoth (old new : List ℕ) (into : TwoPlaces) (width : ℕ) : Type 0 where
@@ -35,8 +35,8 @@ pub record ArePlacesOf (p : FourPlaces) (s : FourSteps) : Type 0 where
 abbrev pub places_on : FourPlaces → ℕ → FourPlaces
 places_on p on = record { one = p.one + on; two = p.two + on; three = p.three + on; four = p.four + on }
 
--- each four lanes are the bytes from the four places on
-pub record AreAt (bank : List ℕ) (p : FourPlaces) (v : FourSixteens) : Type 0 where
+-- these are sixteen bytes from each of the places on
+pub record AreLoaded (bank : List ℕ) (p : FourPlaces) (v : FourSixteens) : Type 0 where
   pub one : HasLanes v.one (λ k. slice_index bank (p.one + k))
   pub two : HasLanes v.two (λ k. slice_index bank (p.two + k))
   pub three : HasLanes v.three (λ k. slice_index bank (p.three + k))

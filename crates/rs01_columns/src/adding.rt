@@ -3,7 +3,7 @@
 ghost use Rattle.std.specs.Prelude.{◌≡◌, ℕ, ◌+◌, ◌*◌, ◌/◌, ◌%◌, ◌<◌, ◌≤◌, length, slice_index, bit_xor};
 ghost use Rattle.rs01_columns.specs.Lanes.{HasLanes, HoldsProducts};
 ghost use Rattle.rs01_columns.specs.Ranges.{HasAdded, IsRaised, OnlyHere};
-ghost use Rattle.rs01_columns.specs.Fours.{AreAt, AreBothRaised, AreRaised, AreTablesOf, BothTakeFour, HasRoom, HasRoomForBoth, OnlyInBoth, TakesFour, places_on, raised_by};
+ghost use Rattle.rs01_columns.specs.Fours.{AreBothRaised, AreLoaded, AreRaised, AreTablesOf, BothTakeFour, HasRoom, HasRoomForBoth, OnlyInBoth, TakesFour, places_on, raised_by};
 
 use crate::products::Products;
 use crate::program::FourSteps;
@@ -109,7 +109,7 @@ fn moved(from: FourPlaces, on: usize, len: usize) -> FourPlaces
 #[inline(always)]
 fn load_four(bank: &[u8], from: FourPlaces) -> FourSixteens
     requires { HasRoom (length bank.now) 16 from }
-    ensures { AreAt bank.now from result }
+    ensures { AreLoaded bank.now from result }
 {
     FourSixteens {
         one: load(bank, from.one),
