@@ -3,8 +3,6 @@ use Rattle.std.specs.Prelude.{◌≢◌, Bool, false, true, Result, Ok, Err}
 use Rattle.rs01_ecchead.specs.declared.opened.Which.TheVariants as which
 use Rattle.rs01_ecchead.specs.declared.opened.EccRefusal.{EccRefusal}
 use Rattle.rs01_ecchead.specs.declared.opened.EccRefusal.TheVariants as ecc
-use Rattle.rs01_ecchead.specs.declared.walk.WalkFault.{WalkFault}
-use Rattle.rs01_ecchead.specs.declared.walk.WalkFault.TheVariants as walk
 use Rattle.rs01_verify.specs.declared.refusal.VerifyRefusal.{VerifyRefusal}
 use Rattle.rs01_verify.specs.declared.refusal.VerifyRefusal.TheVariants.{NoFile, Head, Size, Body, ReadFault, OutOfMemory}
 
@@ -16,11 +14,6 @@ refusal_of (ecc.Size have want) = Size have want
 refusal_of (ecc.Body have want) = Body have want
 refusal_of ecc.ReadFault = ReadFault
 refusal_of ecc.OutOfMemory = OutOfMemory
-
--- what ended the walk over the image, as it is told here
-abbrev pub walk_refusal : WalkFault → VerifyRefusal
-walk_refusal walk.ReadFault = ReadFault
-walk_refusal walk.OutOfMemory = OutOfMemory
 
 -- a refusal that comes from the files, and from no fault or want of memory
 abbrev pub IsOfFiles : VerifyRefusal → Type 0

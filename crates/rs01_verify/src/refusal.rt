@@ -48,15 +48,13 @@ impl From<EccRefusal> for VerifyRefusal {
 }
 
 impl From<WalkFault> for VerifyRefusal {
-    ghost use Rattle.rs01_verify.specs.Refusal.{walk_refusal};
+    ghost use Rattle.rs01_ecchead.specs.Walked.{walk_refusal};
+    ghost use Rattle.rs01_verify.specs.Refusal.{refusal_of};
 
-    ghost from_gives = { λ of why. why ≡ walk_refusal of };
+    ghost from_gives = { λ of why. why ≡ refusal_of (walk_refusal of) };
 
     fn from(why: WalkFault) -> VerifyRefusal {
-        match why {
-            WalkFault::ReadFault => VerifyRefusal::ReadFault,
-            WalkFault::OutOfMemory => VerifyRefusal::OutOfMemory,
-        }
+        VerifyRefusal::from(EccRefusal::from(why))
     }
 }
 
