@@ -1,7 +1,8 @@
 -- What looking at an image answers, by what was found.
-use Rattle.std.proofs.Common.{◌≡◌, ℕ, ◌<◌, List, [], length, sym, ap, ◌∙◌, arith}
+use Rattle.std.proofs.Common.{subst, ◌≡◌, ℕ, ◌<◌, List, [], length, sym, ap, ◌∙◌, arith}
 use Rattle.std.specs.Prelude.{Option, Some, None, Result, Err}
 use Rattle.std.specs.Option.{option_map, unwrap_or}
+use Rattle.rs01_outside.specs.Files.{Files, bytes_of}
 use Rattle.rs01_ecchead.specs.Pieces.{IsPiece}
 use Rattle.rs01_ecchead.proofs.Parts.{whole_under}
 use Rattle.rs01_ecchead.specs.declared.walk.WalkFault.{WalkFault}
@@ -56,12 +57,14 @@ reading_never walk.ReadFault e = cc
 reading_never walk.OutOfMemory e = cc
 
 -- a file that was held, and the first sector that is marked in it
-pub by_mark : (o : Option (List ℕ)) (n : ℕ) (bytes : List ℕ) (m : Option ℕ) → Some n ≡ option_map length o → length bytes ≡ n
-    → IsPiece (unwrap_or o []) 0 bytes → size_refusal n ≡ None → m ≡ first_marked bytes
-    → (o ≡ Some bytes) × (refusal_of o ≡ option_map Marker m)
-by_mark o n bytes m e long piece size found =
-    let is = whole_under o n bytes e long piece in
-    (is, by_marker o n bytes m e (λ file f l. let g : Some bytes ≡ Some file = sym is ∙ f in ap (λ (x : Option (List ℕ)). unwrap_or x []) g) size found)
+pub by_mark : (f0 f1 : Files) (name : List ℕ) (n : ℕ) (bytes : List ℕ) (m : Option ℕ) → Some n ≡ option_map length (f0 name) → f1 ≡ f0 → length bytes ≡ n
+    → IsPiece (bytes_of f1 name) 0 bytes → size_refusal n ≡ None → m ≡ first_marked bytes
+    → (f0 name ≡ Some bytes) × (refusal_of (f0 name) ≡ option_map Marker m)
+by_mark f0 f1 name n bytes m e still long piece size found =
+    let is = whole_under (f0 name) n bytes e long (subst (λ (f : Files). IsPiece (bytes_of f name) 0 bytes) still piece) in (
+      is,
+      by_marker (f0 name) n bytes m e (λ file f l. let g : Some bytes ≡ Some file = sym is ∙ f in ap (λ (x : Option (List ℕ)). unwrap_or x []) g) size found,
+    )
 
 -- the answer that hands a refusal on
 pub looks_measured : (o : Option (List ℕ)) (n r : ℕ) (result : Result Image CreateRefusal) (x why : CreateRefusal) → result ≡ Err x → x ≡ why

@@ -1,8 +1,6 @@
 use Rattle.std.proofs.Common.{◌∙◌, ap, sym, subst}
 use Rattle.std.specs.Prelude.{None, Some, IsTrue}
 use Rattle.std.proofs.lemmas.Result.{err_from_is_err_and}
-use Rattle.rs01_outside.specs.Files.{Files, bytes_of}
-use Rattle.rs01_ecchead.specs.Pieces.{IsPiece}
 use Rattle.rs01_create.specs.Create.{first_marked}
 use Rattle.rs01_create.proofs.Looks.{by_mark, handed_on, looks_measured, looks_read, measure_many, measure_never, reading_many, reading_never}
 use Rattle.rs01_create.proofs.look.look.Goals as goal
@@ -39,20 +37,14 @@ returns-in_err-bytes-clause-never g c = λ e.
 
 pub returns-in-Some-clause-answer : goal.returns-in-Some-clause-answer
 returns-in-Some-clause-answer g c = λ t.
-    let name = c.args.name.now in
-    let still = c.in-Ok-Some.ensures.reads.unchanged t in
-    let piece = subst (λ (f : Files). IsPiece (bytes_of f name) 0 c.in_ok-bytes.bytes.items) still
-    (c.in_ok-bytes.ensures.bytes (subst IsTrue (sym c.in-Ok-Some.ensures.reads.tells) t)) in
-    (by_mark ((g.D.Desk.state c.args.desk.now).files name) c.in-Ok-Some.size c.in_ok-bytes.bytes.items (Some c.in-Some.sector)
-    (sym c.in-Ok-Some.field-0-is ∙ c.in-Ok-Some.ensures.size t) c.in_ok-bytes.ensures.len piece c.in_ok-extent.ensures.accepted
-    (c.in-Some.ensures ∙ ap first_marked c.deref.ensures.value)).1
+    let size = c.in-Ok-Some.ensures in
+    (by_mark (g.D.Desk.state c.args.desk.now).files _ c.args.name.now c.in-Ok-Some.size c.in_ok-bytes.bytes.items (Some c.in-Some.sector)
+    (sym c.in-Ok-Some.field-0-is ∙ size.size t) (size.reads.unchanged t) c.in_ok-bytes.ensures.len (c.in_ok-bytes.ensures.bytes (subst IsTrue (sym size.reads.tells) t))
+    c.in_ok-extent.ensures.accepted (c.in-Some.ensures ∙ ap first_marked c.deref.ensures.value)).1
 
 pub returns-in-None-clause-answer : goal.returns-in-None-clause-answer
 returns-in-None-clause-answer g c = λ t.
-    let name = c.args.name.now in
-    let still = c.in-Ok-Some.ensures.reads.unchanged t in
-    let piece = subst (λ (f : Files). IsPiece (bytes_of f name) 0 c.in_ok-bytes.bytes.items) still
-    (c.in_ok-bytes.ensures.bytes (subst IsTrue (sym c.in-Ok-Some.ensures.reads.tells) t)) in
-    by_mark ((g.D.Desk.state c.args.desk.now).files name) c.in-Ok-Some.size c.in_ok-bytes.bytes.items None
-    (sym c.in-Ok-Some.field-0-is ∙ c.in-Ok-Some.ensures.size t) c.in_ok-bytes.ensures.len piece c.in_ok-extent.ensures.accepted
-    (c.in-None.ensures ∙ ap first_marked c.deref.ensures.value)
+    let size = c.in-Ok-Some.ensures in
+    by_mark (g.D.Desk.state c.args.desk.now).files _ c.args.name.now c.in-Ok-Some.size c.in_ok-bytes.bytes.items None
+    (sym c.in-Ok-Some.field-0-is ∙ size.size t) (size.reads.unchanged t) c.in_ok-bytes.ensures.len (c.in_ok-bytes.ensures.bytes (subst IsTrue (sym size.reads.tells) t))
+    c.in_ok-extent.ensures.accepted (c.in-None.ensures ∙ ap first_marked c.deref.ensures.value)
