@@ -1,5 +1,8 @@
 mod AskLemmas
 mod CountLemmas
 mod JudgeLemmas
+mod LaidLemmas
 pub mod LastingLemmas
+mod MarkLemmas
 mod MediumLemmas
+mod MixedLemmas

@@ -6,3 +6,4 @@ pub mod Medium
 pub mod Course
 pub mod Left
 pub mod Judged
+pub mod Marking

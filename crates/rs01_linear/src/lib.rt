@@ -4,6 +4,7 @@
 mod asking;
 mod fate;
 mod judging;
+mod marking;
 mod medium;
 mod opening;
 mod refusal;

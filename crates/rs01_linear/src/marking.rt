@@ -1,0 +1,135 @@
+//! Putting the markers of all sectors that aren't good, before anything is asked for.
+ghost use Rattle.std.specs.Prelude.{◌≡◌, ◌≢◌, ◌+◌, ◌-◌, ◌*◌, ◌<◌, ◌≤◌, ◌++◌, IfOk, List, OnOk, false, length, take, ℕ, Option};
+ghost use Rattle.std.specs.List.{flat_map, range_with_len};
+ghost use Rattle.rs01_layers.specs.Sectors.{length_of};
+ghost use Rattle.rs01_sums.specs.Marker.{marker};
+ghost use Rattle.rs01_outside.specs.DeskState.{WorksOn};
+ghost use Rattle.rs01_linear.specs.Asking.{known_with};
+ghost use Rattle.rs01_linear.specs.Left.{first_fates, marked};
+ghost use Rattle.rs01_linear.specs.Marking.{Extends, IsRun, is_left_out, place};
+ghost use Rattle.rs01_linear.specs.Refusal.{is_write_fault};
+
+use crate::fate::Fate;
+use crate::refusal::ReadRefusal;
+use rs01_layers::Extent;
+use rs01_outside::{Desk, Failed};
+use rs01_sums::marker;
+use std::alloc::{AllocError, Global};
+
+// How many sectors are written at once.
+const RUN: u32 = 64;
+
+// Whether a sector isn't good and wasn't asked for.
+fn is_left_out(fate: Fate) -> bool
+    ensures { result ≡ is_left_out fate }
+{
+    match fate {
+        Fate::Kept => false,
+        Fate::Read => false,
+        Fate::Unreadable => false,
+        Fate::Altered => false,
+        Fate::LeftOut => true,
+    }
+}
+
+// Where a run of sectors that aren't good ends, which begins with the first.
+fn run_end(fates: &[Fate], sectors: u32, first: u32) -> u32
+    requires inside { first < sectors }
+    requires all { length fates.now ≡ sectors }
+    ensures { IsRun fates.now first result }
+{
+    let most = (sectors - first).min(RUN);
+    for sector in first..first + most {
+        if !is_left_out(fates[sector as usize]) {
+            return sector;
+        }
+    }
+    first + most
+}
+
+// Puts the marker of a sector behind others.
+fn push_marker(extent: &Extent, sector: u32, bytes: &mut Vec<u8>) -> Result<(), AllocError>
+    requires { sector < extent.now.sectors }
+    ensures { let n = length_of extent.now.sectors extent.now.last_bytes sector in
+        OnOk result (bytes.new.items ≡ bytes.old.items ++ take n (marker sector)) }
+{
+    let mut block = [0u8; 2048];
+    marker(sector, &mut block);
+    bytes.extend_from_slice(&block[..extent.length(sector) as usize])?;
+    Ok(())
+}
+
+// The markers of neighbouring sectors, and nothing else.
+fn fill_markers(
+    extent: &Extent,
+    first: u32,
+    past: u32,
+    bytes: &mut Vec<u8>,
+) -> Result<(), AllocError>
+    requires order { first ≤ past }
+    requires inside { past ≤ extent.now.sectors }
+    ensures { OnOk result (bytes.new.items
+        ≡ flat_map (λ s. take (length_of extent.now.sectors extent.now.last_bytes s) (marker s))
+        (range_with_len first (past - first))) }
+{
+    bytes.clear();
+    for sector in first..past {
+        push_marker(extent, sector, bytes)?;
+    }
+    Ok(())
+}
+
+// Marks a run of sectors that aren't good, or passes a sector that is. Gives the sector behind it.
+fn mark_run<D: Desk>(
+    desk: &mut D,
+    name: &str,
+    extent: &Extent,
+    fates: &[Fate],
+    first: u32,
+    bytes: &mut Vec<u8>,
+) -> Result<u32, ReadRefusal>
+    requires first { first < extent.now.sectors }
+    requires all { length fates.now ≡ extent.now.sectors }
+    ensures more { IfOk result (λ past. first + 1 ≤ past) }
+    ensures inside { IfOk result (λ past. past ≤ extent.now.sectors) }
+    ensures works { WorksOn name.now (D.state desk.old) (D.state desk.new) false
+        (is_write_fault result) }
+    ensures marked { (sums : Option (List ℕ)) (y : List ℕ) → let known = known_with extent.now sums in
+        fates.now ≡ first_fates known y
+        → Extends (marked known y) y name.now (place known first) (place known)
+        (D.state desk.old) (D.state desk.new) result }
+{
+    let past = run_end(fates, extent.sectors, first);
+    if past == first {
+        return Ok(first + 1);
+    }
+    fill_markers(extent, first, past, bytes)?;
+    match desk.write_at(name, 2048 * u64::from(first), bytes) {
+        Ok(()) => Ok(past),
+        Err(Failed) => Err(ReadRefusal::WriteFault),
+    }
+}
+
+// Marks all sectors that aren't good.
+pub fn put_markers<D: Desk>(
+    alloc: Global,
+    desk: &mut D,
+    name: &str,
+    extent: &Extent,
+    fates: &[Fate],
+) -> Result<(), ReadRefusal>
+    requires all { length fates.now ≡ extent.now.sectors }
+    ensures works { WorksOn name.now (D.state desk.old) (D.state desk.new) false
+        (is_write_fault result) }
+    ensures marked { (sums : Option (List ℕ)) (y : List ℕ) → let known = known_with extent.now sums in
+        fates.now ≡ first_fates known y
+        → Extends (marked known y) y name.now 0 (λ _. place known extent.now.sectors)
+        (D.state desk.old) (D.state desk.new) result }
+{
+    let mut bytes = Vec::with_capacity(alloc, 2048 * RUN as usize)?;
+    let mut first = 0u32;
+    while first < extent.sectors {
+        first = mark_run(desk, name, extent, fates, first, &mut bytes)?;
+    }
+    Ok(())
+}
