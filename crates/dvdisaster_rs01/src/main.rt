@@ -3,8 +3,11 @@
 //! Words that can't be had end it with status 8, and with 7 where memory ran out.
 #![tactic(auto)]
 
-use rs01_host::{FileDesk, StdSink};
+use rs01_host::{FileDesk, FileDrive, StdSink};
+use rs01_outside::Drive;
+use rs01_rack::Rack;
 use rs01_top::run_one;
+use rs01_words::drive_names;
 use std::env;
 use std::io::{self, ErrorKind};
 use std::process::ExitCode;
@@ -13,6 +16,9 @@ use std::rt::Env;
 const NO_MEMORY: u8 = 7;
 
 const NO_WORDS: u8 = 8;
+
+// The grammar has no more drives in a line.
+const MOST_DRIVES: usize = 16;
 
 // The status of a run whose words can't be had.
 fn wordless(error: &io::Error) -> u8 {
@@ -53,6 +59,27 @@ fn main(rt: HostRuntime) -> ExitCode {
     if desk.reserve(&words).is_err() {
         return ExitCode::from(NO_MEMORY);
     }
+    let Ok(names) = drive_names(rt.alloc(), &words) else {
+        return ExitCode::from(NO_MEMORY);
+    };
+    let mut drives: Vec<Box<dyn Drive>> = Vec::new(rt.alloc());
+    for name in names {
+        if drives.len() == MOST_DRIVES {
+            break;
+        }
+        let Ok(files) = rt.clone() else {
+            return ExitCode::from(NO_MEMORY);
+        };
+        let Ok(drive) = Box::new(rt.alloc(), FileDrive::new(files, name)) else {
+            return ExitCode::from(NO_MEMORY);
+        };
+        if drives.push(drive).is_err() {
+            return ExitCode::from(NO_MEMORY);
+        }
+    }
+    let Ok(mut rack) = Rack::new(rt.alloc(), drives) else {
+        return ExitCode::from(NO_MEMORY);
+    };
     let mut out = StdSink::new(output);
-    ExitCode::from(run_one(rt.alloc(), &words, &mut desk, &mut out))
+    ExitCode::from(run_one(rt.alloc(), &words, &mut desk, &mut rack, &mut out))
 }

@@ -3,6 +3,7 @@ use Rattle.std.proofs.Common.{◌≡◌, ℕ, List, refl, sym, subst}
 use Rattle.std.specs.Prelude.{Result, Err}
 use Rattle.rs01_outside.specs.DeskState.{DeskState}
 use Rattle.rs01_outside.specs.SinkState.{SinkState}
+use Rattle.rs01_rack.specs.Rack.{RackState}
 use Rattle.rs01_report.specs.Faults.{fault_line, status_of}
 use Rattle.rs01_words.specs.declared.command.Command.{Command}
 use Rattle.rs01_words.specs.declared.fault.WordFault.{WordFault}
@@ -10,7 +11,9 @@ use Rattle.rs01_words.specs.declared.fault.WordFault.TheVariants.{NoCommand, Unk
 use Rattle.rs01_words.specs.declared.fault.WordRefused.{WordRefused}
 use Rattle.rs01_top.specs.Asked.{work_by, work_of}
 use Rattle.rs01_top.specs.Faults.{fault_at, word_fault}
+use Rattle.rs01_top.specs.Outside.{World, world}
 use Rattle.rs01_top.specs.Run.{Ends, IsRun}
+use Rattle.rs01_top.specs.Work.{Work}
 use Rattle.rs01_top.proofs.Endings.{not_begun}
 
 word_is : (fault : WordFault) (place : ℕ) → status_of (fault_at fault place) ≡ 2
@@ -25,16 +28,22 @@ word_is Missing place = refl
 word_is SameName place = refl
 
 -- words that are not in the grammar
-pub word_run : (asked : Result Command WordRefused) (refused : WordRefused) (words : List (List ℕ)) (desk : DeskState) (out out' : SinkState) (status : ℕ)
+pub word_run : (asked : Result Command WordRefused) (refused : WordRefused) (words : List (List ℕ)) (desk : DeskState) (rack : RackState) (out out' : SinkState) (status : ℕ)
     → asked ≡ Err refused
     → Ends (fault_line (word_fault refused)) (status_of (word_fault refused)) out out' status
-    → IsRun (work_by words asked) desk desk out out' status
-word_run asked refused words desk out out' status e ends =
-    subst (λ (a : Result Command WordRefused). IsRun (work_by words a) desk desk out out' status) (sym e)
-    (not_begun (word_fault refused) desk out out' status (word_is refused.fault refused.place) ends)
+    → IsRun (work_by words asked) (world desk rack out) (world desk rack out') status
+word_run asked refused words desk rack out out' status e ends =
+    subst (λ (a : Result Command WordRefused). IsRun (work_by words a) (world desk rack out) (world desk rack out') status) (sym e)
+    (not_begun (word_fault refused) desk rack out out' status (word_is refused.fault refused.place) ends)
 
 -- the command that was asked for, by the arm that it came to
-pub as_asked : (asked command : Command) (words : List (List ℕ)) (desk : DeskState) (out out' : SinkState) (status : ℕ)
-    → asked ≡ command → IsRun (work_of words command) desk desk out out' status
-    → IsRun (work_of words asked) desk desk out out' status
-as_asked asked command words desk out out' status e run = subst (λ (a : Command). IsRun (work_of words a) desk desk out out' status) (sym e) run
+pub as_asked : (asked command : Command) (words : List (List ℕ)) (old new : World) (status : ℕ)
+    → asked ≡ command → IsRun (work_of words command) old new status
+    → IsRun (work_of words asked) old new status
+as_asked asked command words old new status e run = subst (λ (a : Command). IsRun (work_of words a) old new status) (sym e) run
+
+-- work on two names, which are words
+pub by_names : (work : List ℕ → List ℕ → Work) (a b x y : List ℕ) (old new : World) (status : ℕ) → a ≡ x → b ≡ y
+    → IsRun (work a b) old new status → IsRun (work x y) old new status
+by_names work a b x y old new status one other run =
+    subst (λ (n : List ℕ). IsRun (work x n) old new status) other (subst (λ (n : List ℕ). IsRun (work n b) old new status) one run)

@@ -15,8 +15,9 @@ use Rattle.rs01_report.specs.Texts.{create_lines}
 use Rattle.rs01_top.specs.Create.{create_work}
 use Rattle.rs01_top.specs.Faults.{create_fault}
 use Rattle.rs01_top.specs.Work.{fault_if}
-use Rattle.rs01_top.specs.Run.{Ends, IsRun}
-use Rattle.rs01_top.proofs.Endings.{NotOfWords, done, out_of_memory, read_failed, refused, some_same, write_failed}
+use Rattle.rs01_top.specs.Run.{Ends, RunsAlone}
+use Rattle.rs01_top.proofs.Alone.{done, out_of_memory, read_failed, refused, write_failed}
+use Rattle.rs01_top.proofs.Endings.{NotOfWords, some_same}
 
 not_words : (why : CreateRefusal) → status_of (create_fault why) ≡ 2 → ⊥
 not_words NoImage e = omega arith
@@ -44,12 +45,12 @@ pub made : (image ecc : List ℕ) (r : ℕ) (old new : DeskState) (out out' : Si
     → WorksOn ecc old new false false
     → (IsTrue old.tells → IsMade image ecc r old.files new.files report)
     → Ends (create_lines report ecc) 0 out out' status
-    → IsRun (create_work image ecc r) old new out out' status
+    → RunsAlone (create_work image ecc r) old new out out' status
 made image ecc r old new out out' report status works is ends =
     done (create_work image ecc r) ecc old new out out' (create_lines report ecc) 0 status (not_of_words image ecc r) (inl refl) works
-    (λ d. ap (λ (o : Option CreateRefusal). fault_if create_fault o) (is d).accepted)
-    (λ d. record { files = (is d).file; lines = ap (λ (p : CreateReport). create_lines p ecc) (is d).told; number = refl })
-    (λ d. record { elsewhere = works.elsewhere d; left = inr (record { accepted = (is d).accepted; whole = (is d).file.there }) })
+    (λ rack d. ap (λ (o : Option CreateRefusal). fault_if create_fault o) (is d).accepted)
+    (λ rack d. record { files = (is d).file; lines = ap (λ (p : CreateReport). create_lines p ecc) (is d).told; number = refl })
+    (λ rack d. record { elsewhere = works.elsewhere d; left = inr (record { accepted = (is d).accepted; whole = (is d).file.there }) })
     ends
 
 -- the image is refused
@@ -57,19 +58,19 @@ of_image : (image ecc : List ℕ) (r : ℕ) (old new : DeskState) (out out' : Si
     → status_of (create_fault why) ≡ 3 → WorksOn ecc old new false false
     → (IsTrue old.tells → IsRefused image old.files new.files why)
     → Ends (fault_line (create_fault why)) (status_of (create_fault why)) out out' status
-    → IsRun (create_work image ecc r) old new out out' status
+    → RunsAlone (create_work image ecc r) old new out out' status
 of_image image ecc r old new out out' why status three works is ends =
     refused (create_work image ecc r) ecc old new out out' (create_fault why) status (not_of_words image ecc r) three works
-    (λ d. ap (λ (o : Option CreateRefusal). fault_if create_fault o) (is d).refused)
+    (λ rack d. ap (λ (o : Option CreateRefusal). fault_if create_fault o) (is d).refused)
     (λ d. (is d).unchanged)
-    (λ d. record { elsewhere = works.elsewhere d; left = inl (stays _ _ _ _ (ap (λ (f : Files). f ecc) (is d).unchanged)) })
+    (λ rack d. record { elsewhere = works.elsewhere d; left = inl (stays _ _ _ _ (ap (λ (f : Files). f ecc) (is d).unchanged)) })
     ends
 
 pub not_made : (image ecc : List ℕ) (r : ℕ) (old new : DeskState) (out out' : SinkState) (why : CreateRefusal) (status : ℕ)
     → WorksOn ecc old new (is_read_fault {T = CreateReport} (Err why)) (is_write_fault {T = CreateReport} (Err why))
     → (IsTrue old.tells → Creates image ecc r old.files new.files (Err why))
     → Ends (fault_line (create_fault why)) (status_of (create_fault why)) out out' status
-    → IsRun (create_work image ecc r) old new out out' status
+    → RunsAlone (create_work image ecc r) old new out out' status
 not_made image ecc r old new out out' NoImage status works is ends = of_image image ecc r old new out out' NoImage status refl works is ends
 not_made image ecc r old new out out' EmptyImage status works is ends = of_image image ecc r old new out out' EmptyImage status refl works is ends
 not_made image ecc r old new out out' (TooManySectors n) status works is ends =
@@ -77,11 +78,11 @@ not_made image ecc r old new out out' (TooManySectors n) status works is ends =
 not_made image ecc r old new out out' (Marker s) status works is ends = of_image image ecc r old new out out' (Marker s) status refl works is ends
 not_made image ecc r old new out out' ReadFault status works is ends =
     read_failed (create_work image ecc r) ecc old new out out' status (not_of_words image ecc r) works
-    (λ d. record { elsewhere = works.elsewhere d; left = inl (is d) }) ends
+    (λ rack d. record { elsewhere = works.elsewhere d; left = inl (is d) }) ends
 not_made image ecc r old new out out' WriteFault status works is ends =
     write_failed (create_work image ecc r) ecc old new out out' status (not_of_words image ecc r) refl works
-    (λ d. ap (λ (o : Option CreateRefusal). fault_if create_fault o) (is d).0)
-    (λ d. record { elsewhere = works.elsewhere d; left = inl (is d).1 }) ends
+    (λ rack d. ap (λ (o : Option CreateRefusal). fault_if create_fault o) (is d).0)
+    (λ rack d. record { elsewhere = works.elsewhere d; left = inl (is d).1 }) ends
 not_made image ecc r old new out out' OutOfMemory status works is ends =
     out_of_memory (create_work image ecc r) ecc old new out out' status (not_of_words image ecc r) works
-    (λ d. record { elsewhere = works.elsewhere d; left = inl (is d) }) ends
+    (λ rack d. record { elsewhere = works.elsewhere d; left = inl (is d) }) ends

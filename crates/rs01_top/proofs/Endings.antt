@@ -1,10 +1,11 @@
 -- What holds of a run, by how its work and its last text ended.
 use Rattle.std.proofs.Common.{◌≡◌, ◌≢◌, ◌≤◌, ℕ, List, [], ◌++◌, length, refl, sym, ◌∙◌, ap, subst, arith, ◌⊎◌, inl, inr, ⊎_elim, true, false}
-use Rattle.std.specs.Prelude.{IsTrue, IsSome, Option, Some, None, Result, Ok, Err}
+use Rattle.std.specs.Prelude.{IsTrue, IsSome, Option, Some, None, Result, Ok, Err, not, slice_get}
 use Rattle.std.proofs.Math.Seq.{take-length}
 use Rattle.rs01_outside.proofs.States.{reads-start, works-reads}
 use Rattle.rs01_outside.specs.Causes.{Rose}
 use Rattle.rs01_outside.specs.DeskState.{DeskState, WorksOn}
+use Rattle.rs01_outside.specs.DriveState.{DriveState}
 use Rattle.rs01_outside.specs.SinkState.{SinkState}
 use Rattle.rs01_report.specs.declared.faults.Fault.{Fault}
 use Rattle.rs01_report.specs.declared.faults.Fault.TheVariants as fault
@@ -12,9 +13,10 @@ use Rattle.rs01_report.specs.declared.puts.PutRefusal.{PutRefusal}
 use Rattle.rs01_report.specs.declared.puts.PutRefusal.TheVariants.{SinkFault, OutOfMemory}
 use Rattle.rs01_report.specs.Faults.{fault_line, status_of}
 use Rattle.rs01_report.specs.Puts.{PutsText}
-use Rattle.rs01_top.specs.Outside.{Outside, outside_of}
+use Rattle.rs01_rack.specs.Rack.{RackState}
+use Rattle.rs01_top.specs.Outside.{Outside, World, outside_of, world}
 use Rattle.rs01_top.specs.Work.{Answers, AnswersBy, Work, no_work}
-use Rattle.rs01_top.specs.Run.{Begins, Ends, IsRun, IsSettled, NothingRose, Tells, ended}
+use Rattle.rs01_top.specs.Run.{Begins, DriveLasts, Ends, IsKnown, IsRun, IsSettled, NothingRose, RackLasts, RaisedCount, Tells, ended}
 
 -- how the last text of a run was put, which was to end with a status that is not 6 or 7
 record IsTold (line : List ℕ) (wanted : ℕ) (out out' : SinkState) (status : ℕ) : Type 0 where
@@ -83,6 +85,16 @@ same_settled s wanted h r = grind arith
 unsettled : (s : ℕ) → IsSettled s → (s ≡ 4) ⊎ (s ≡ 6) ⊎ (s ≡ 7) → ⊥
 unsettled s h r = grind arith
 
+-- a status that a refusal by words, files or drives has
+refusal_settled : (s : ℕ) (P : Type 0) → (s ≡ 2) ⊎ (P × ((s ≡ 3) ⊎ (s ≡ 5))) → IsSettled s
+refusal_settled s P h = ⊎_elim (λ two. inr (inr (inl two))) (λ p. inr (inr (inr p.1))) h
+
+not_two : (s : ℕ) → (s ≡ 3) ⊎ (s ≡ 5) → s ≡ 2 → ⊥
+not_two s h e = grind arith
+
+three_or_five : (s k : ℕ) → (s ≡ 3) ⊎ (s ≡ 5) → s ≡ k → 6 ≤ k → ⊥
+three_or_five s k h e most = grind arith
+
 pub some_same : (x y : Fault) → Some x ≡ Some y → x ≡ y
 some_same x y e = cc
 
@@ -113,19 +125,55 @@ record Refusing (work : Work) (found : Outside) (line : List ℕ) (wanted : ℕ)
   number : status_of why ≡ wanted
   line_is : line ≡ fault_line why
 
--- the work ended without a fault, and this is its text with its status
-settled : (work : Work) (name : List ℕ) (old new : DeskState) (out out' : SinkState) (line : List ℕ) (wanted status : ℕ)
-    → IsSettled wanted → WorksOn name old new false false
-    → (IsTrue old.tells → Answers work (outside_of old) (outside_of new) line wanted)
-    → (IsTrue old.tells → work.may_stand (outside_of old) (outside_of new))
-    → ((why : Fault) → work.refusal (outside_of old) ≡ Some why → (status_of why ≡ 2) ⊎ IsTrue old.tells → status_of why ≡ wanted)
-    → ((wanted ≡ 2) ⊎ (IsTrue old.tells × (wanted ≡ 3)) → Refusing work (outside_of old) line wanted)
-    → IsTold line wanted out out' status
-    → IsRun work old new out out' status
-settled work name old new out out' line wanted status w works answer left refusing only put =
-    let rest : NothingRose old new = (works.read_kept refl, works.write_kept refl) in
+-- drives that refuse the work, with the line for them
+record RefusingDrives (work : Work) (old new : RackState) (line : List ℕ) : Type 0 where
+  used : IsTrue work.uses_drives
+  why : Fault
+  number : status_of why ≡ 5
+  raised : RaisedCount why old new
+  line_is : line ≡ fault_line why
+
+-- what became of the drives
+pub record OfRack (work : Work) (old new : RackState) : Type 0 where
+  pub lasts : RackLasts old new
+  pub unused : IsTrue (not work.uses_drives) → new ≡ old
+
+same_drive : (o : Option DriveState) (before after : DriveState) → o ≡ Some before → o ≡ Some after → DriveLasts before after
+same_drive o before after e d =
+    let same : before ≡ after = cc in
     record {
-      lasts = record { desk = works.tells; sink = put.tells; reads = works.reads_later; writes = works.writes_later; puts = put.later };
+      told_before = λ t. subst (λ (s : DriveState). IsTrue s.tells) (sym same) t;
+      later = subst (λ (s : DriveState). before.faults ≤ s.faults) same (omega arith);
+    }
+
+-- drives that weren't asked
+pub rack_stays : (rack : RackState) → RackLasts rack rack
+rack_stays rack = record { number = refl; each = λ k before after e d. same_drive (slice_get rack.drives k) before after e d }
+
+pub not_asked : (work : Work) (rack : RackState) → OfRack work rack rack
+not_asked work rack = record { lasts = rack_stays rack; unused = λ h. refl }
+
+-- the work ended without a fault, and this is its text with its status
+settled : (work : Work) (name : List ℕ) (old new : World) (line : List ℕ) (wanted status : ℕ)
+    → IsSettled wanted → OfRack work old.rack new.rack → WorksOn name old.desk new.desk false false
+    → (IsKnown work old new → Answers work (outside_of old) (outside_of new) line wanted)
+    → (IsKnown work old new → work.may_stand (outside_of old) (outside_of new))
+    → ((why : Fault) → work.refusal (outside_of old) ≡ Some why → (status_of why ≡ 2) ⊎ IsKnown work old new → status_of why ≡ wanted)
+    → ((wanted ≡ 2) ⊎ (IsKnown work old new × ((wanted ≡ 3) ⊎ (wanted ≡ 5))) → Refusing work (outside_of old) line wanted)
+    → (wanted ≡ 5 → RefusingDrives work old.rack new.rack line)
+    → IsTold line wanted old.out new.out status
+    → IsRun work old new status
+settled work name old new line wanted status w rack works answer left refusing only drives put =
+    let rest : NothingRose old.desk new.desk = (works.read_kept refl, works.write_kept refl) in
+    record {
+      lasts = record {
+        desk = works.tells;
+        sink = put.tells;
+        reads = works.reads_later;
+        writes = works.writes_later;
+        puts = put.later;
+        drives = rack.lasts;
+      };
       answer = λ d h.
           let same : status ≡ wanted = same_settled status wanted h put.range in
           (line, subst (Answers work (outside_of old) (outside_of new) line) (sym same) (answer d), put.whole same);
@@ -133,132 +181,182 @@ settled work name old new out out' line wanted status w works answer left refusi
       stands = left;
       range = ⊎_elim (λ e. inl (subst IsSettled (sym e) w)) (λ e. inr (inr e)) put.range;
       only_refused = λ h.
-          let same : status ≡ wanted = ⊎_elim (λ two. same_settled status wanted (inr (inr (inl two))) put.range) (λ p. same_settled status wanted (inr (inr (inr p.1))) put.range) h in
-          let it = only (⊎_elim (λ two. inl (sym same ∙ two)) (λ p. inr (p.0, sym same ∙ p.1)) h) in
+          let same : status ≡ wanted = same_settled status wanted (refusal_settled status _ h) put.range in
+          let it = only (⊎_elim
+          (λ two. inl (sym same ∙ two))
+          (λ p. inr (p.0, ⊎_elim (λ three. inl (sym same ∙ three)) (λ five. inr (sym same ∙ five)) p.1)) h) in
           record {
             why = it.why;
             first = it.first;
             number = it.number ∙ sym same;
-            line = subst (λ (xs : List ℕ). Tells out out' xs) it.line_is (put.whole same);
+            line = subst (λ (xs : List ℕ). Tells old.out new.out xs) it.line_is (put.whole same);
           };
       refused = λ why e known. ⊎_elim (λ same. inl (same ∙ sym (refusing why e known))) (⊎_elim (λ s. inr (inl s)) (λ s. inr (inr (inl s)))) put.range;
       cause = record {
         files = λ four. absurd (grind (arith, put.range, w));
+        drives = λ five.
+            let same : status ≡ wanted = same_settled status wanted (inr (inr (inr (inr five)))) put.range in
+            let it = drives (sym same ∙ five) in
+            record {
+              used = it.used;
+              why = it.why;
+              number = it.number;
+              raised = it.raised;
+              line = subst (λ (xs : List ℕ). Tells old.out new.out xs) it.line_is (put.whole same);
+            };
         output = put.cause;
-        memory = λ seven. begun_none out out' (fault_line fault.OutOfMemory) (put.nothing seven);
+        memory = λ seven. begun_none old.out new.out (fault_line fault.OutOfMemory) (put.nothing seven);
       };
       quiet = record {
         no_work = λ why e two. rest;
         no_writes = λ h. works.write_kept refl;
+        no_drives = rack.unused;
         output = λ four. absurd (grind (arith, put.range, w));
         settled = λ h. (rest, put.quiet (same_settled status wanted h put.range));
       };
     }
 
 -- the work was done
-pub done : (work : Work) (name : List ℕ) (old new : DeskState) (out out' : SinkState) (line : List ℕ) (wanted status : ℕ)
-    → NotOfWords work → (wanted ≡ 0) ⊎ (wanted ≡ 1) → WorksOn name old new false false
-    → (IsTrue old.tells → work.refusal (outside_of old) ≡ None)
-    → (IsTrue old.tells → work.done (outside_of old) (outside_of new) line wanted)
-    → (IsTrue old.tells → work.may_stand (outside_of old) (outside_of new))
-    → Ends line wanted out out' status
-    → IsRun work old new out out' status
-done work name old new out out' line wanted status words range works none did left ends =
-    settled work name old new out out' line wanted status (⊎_elim (λ e. inl e) (λ e. inr (inl e)) range) works
+pub done : (work : Work) (name : List ℕ) (old new : World) (line : List ℕ) (wanted status : ℕ)
+    → NotOfWords work → (wanted ≡ 0) ⊎ (wanted ≡ 1) → OfRack work old.rack new.rack → WorksOn name old.desk new.desk false false
+    → (IsKnown work old new → work.refusal (outside_of old) ≡ None)
+    → (IsKnown work old new → work.done (outside_of old) (outside_of new) line wanted)
+    → (IsKnown work old new → work.may_stand (outside_of old) (outside_of new))
+    → Ends line wanted old.out new.out status
+    → IsRun work old new status
+done work name old new line wanted status words range rack works none did left ends =
+    settled work name old new line wanted status (⊎_elim (λ e. inl e) (λ e. inr (inl e)) range) rack works
     (λ d. subst (λ (o : Option Fault). AnswersBy o work.done (outside_of old) (outside_of new) line wanted) (sym (none d)) (did d))
     left
     (λ why e known. absurd (⊎_elim (λ two. words (outside_of old) why e two) (λ d. some_none why (sym e ∙ none d)) known))
-    (λ h. absurd (⊎_elim (λ two. low wanted 2 range two (omega arith)) (λ p. low wanted 3 range p.1 (omega arith)) h))
-    (told line wanted out out' status (λ e. low wanted 6 range e (omega arith)) (λ e. low wanted 7 range e (omega arith)) ends)
+    (λ h. absurd (⊎_elim
+    (λ two. low wanted 2 range two (omega arith))
+    (λ p. ⊎_elim (λ three. low wanted 3 range three (omega arith)) (λ five. low wanted 5 range five (omega arith)) p.1)
+    h))
+    (λ five. absurd (low wanted 5 range five (omega arith)))
+    (told line wanted old.out new.out status (λ e. low wanted 6 range e (omega arith)) (λ e. low wanted 7 range e (omega arith)) ends)
 
--- the files refuse the work
-pub refused : (work : Work) (name : List ℕ) (old new : DeskState) (out out' : SinkState) (why : Fault) (status : ℕ)
-    → NotOfWords work → status_of why ≡ 3 → WorksOn name old new false false
-    → (IsTrue old.tells → work.refusal (outside_of old) ≡ Some why)
-    → (IsTrue old.tells → new.files ≡ old.files)
-    → (IsTrue old.tells → work.may_stand (outside_of old) (outside_of new))
-    → Ends (fault_line why) (status_of why) out out' status
-    → IsRun work old new out out' status
-refused work name old new out out' why status words three works first same left ends =
-    settled work name old new out out' (fault_line why) (status_of why) status (inr (inr (inr three))) works
+-- files or drives refuse the work
+refused_for : (work : Work) (name : List ℕ) (old new : World) (why : Fault) (status : ℕ)
+    → NotOfWords work → (status_of why ≡ 3) ⊎ (status_of why ≡ 5) → OfRack work old.rack new.rack → WorksOn name old.desk new.desk false false
+    → (IsKnown work old new → work.refusal (outside_of old) ≡ Some why)
+    → (IsKnown work old new → outside_of new ≡ outside_of old)
+    → (IsKnown work old new → work.may_stand (outside_of old) (outside_of new))
+    → (status_of why ≡ 5 → RefusingDrives work old.rack new.rack (fault_line why))
+    → Ends (fault_line why) (status_of why) old.out new.out status
+    → IsRun work old new status
+refused_for work name old new why status words number rack works first same left drives ends =
+    settled work name old new (fault_line why) (status_of why) status (inr (inr (inr number))) rack works
     (λ d. subst (λ (o : Option Fault). AnswersBy o work.done (outside_of old) (outside_of new) (fault_line why) (status_of why)) (sym (first d))
-    (record { files = same d; line = refl; number = refl }))
+    (record { files = ap (λ (o : Outside). o.files) (same d); views = ap (λ (o : Outside). o.views) (same d); line = refl; number = refl }))
     left
     (λ other e known. ⊎_elim (λ two. absurd (words (outside_of old) other e two)) (λ d. ap status_of (some_same other why (sym e ∙ first d))) known)
     (λ h. ⊎_elim
-    (λ two. absurd (other_than (status_of why) 3 2 three (λ e. omega arith) two))
+    (λ two. absurd (not_two (status_of why) number two))
     (λ p. record { why = why; first = first p.0; number = refl; line_is = refl })
     h)
-    (told (fault_line why) (status_of why) out out' status
-    (other_than (status_of why) 3 6 three (λ e. omega arith)) (other_than (status_of why) 3 7 three (λ e. omega arith)) ends)
+    drives
+    (told (fault_line why) (status_of why) old.out new.out status
+    (λ e. three_or_five (status_of why) 6 number e (omega arith)) (λ e. three_or_five (status_of why) 7 number e (omega arith)) ends)
+
+-- the files refuse the work
+pub refused : (work : Work) (name : List ℕ) (old new : World) (why : Fault) (status : ℕ)
+    → NotOfWords work → status_of why ≡ 3 → OfRack work old.rack new.rack → WorksOn name old.desk new.desk false false
+    → (IsKnown work old new → work.refusal (outside_of old) ≡ Some why)
+    → (IsKnown work old new → outside_of new ≡ outside_of old)
+    → (IsKnown work old new → work.may_stand (outside_of old) (outside_of new))
+    → Ends (fault_line why) (status_of why) old.out new.out status
+    → IsRun work old new status
+refused work name old new why status words three rack works first same left ends =
+    refused_for work name old new why status words (inl three) rack works first same left
+    (λ five. absurd (other_than (status_of why) 3 5 three (λ e. omega arith) five)) ends
+
+-- the drives refuse it
+pub refused_by_drives : (work : Work) (name : List ℕ) (old new : World) (why : Fault) (status : ℕ)
+    → NotOfWords work → IsTrue work.uses_drives → status_of why ≡ 5 → RaisedCount why old.rack new.rack
+    → OfRack work old.rack new.rack → WorksOn name old.desk new.desk false false
+    → (IsKnown work old new → work.refusal (outside_of old) ≡ Some why)
+    → (IsKnown work old new → outside_of new ≡ outside_of old)
+    → (IsKnown work old new → work.may_stand (outside_of old) (outside_of new))
+    → Ends (fault_line why) (status_of why) old.out new.out status
+    → IsRun work old new status
+refused_by_drives work name old new why status words used five raised rack works first same left ends =
+    refused_for work name old new why status words (inr five) rack works first same left
+    (λ e. record { used = used; why = why; number = five; raised = raised; line_is = refl }) ends
 
 -- the words refuse it, and nothing is begun
-pub not_begun : (why : Fault) (desk : DeskState) (out out' : SinkState) (status : ℕ) → status_of why ≡ 2
+pub not_begun : (why : Fault) (desk : DeskState) (rack : RackState) (out out' : SinkState) (status : ℕ) → status_of why ≡ 2
     → Ends (fault_line why) (status_of why) out out' status
-    → IsRun (no_work why) desk desk out out' status
-not_begun why desk out out' status two ends =
-    settled (no_work why) [] desk desk out out' (fault_line why) (status_of why) status (inr (inr (inl two))) (works-reads [] desk desk false (reads-start desk))
-    (λ d. record { files = refl; line = refl; number = refl })
+    → IsRun (no_work why) (world desk rack out) (world desk rack out') status
+not_begun why desk rack out out' status two ends =
+    settled (no_work why) [] (world desk rack out) (world desk rack out') (fault_line why) (status_of why) status
+    (inr (inr (inl two))) (not_asked (no_work why) rack) (works-reads [] desk desk false (reads-start desk))
+    (λ d. record { files = refl; views = refl; line = refl; number = refl })
     (λ d. refl)
     (λ other e known. ap status_of (sym (some_same why other e)))
     (λ h. record { why = why; first = refl; number = refl; line_is = refl })
+    (λ five. absurd (other_than (status_of why) 2 5 two (λ e. omega arith) five))
     (told (fault_line why) (status_of why) out out' status
     (other_than (status_of why) 2 6 two (λ e. omega arith)) (other_than (status_of why) 2 7 two (λ e. omega arith)) ends)
 
 -- a file could not be read or written
-faulted : (work : Work) (old new : DeskState) (out out' : SinkState) (line : List ℕ) (status : ℕ)
-    → NotOfWords work → new.tells ≡ old.tells → old.read_faults ≤ new.read_faults → old.write_faults ≤ new.write_faults
-    → (IsTrue old.tells → work.may_stand (outside_of old) (outside_of new))
-    → (Rose old.read_faults new.read_faults × (line ≡ fault_line fault.ReadFault)) ⊎ (Rose old.write_faults new.write_faults × (line ≡ fault_line fault.WriteFault))
-    → (IsTrue work.only_reads ⊎ (IsTrue old.tells × IsSome (work.refusal (outside_of old))) → new.write_faults ≡ old.write_faults)
-    → IsTold line 4 out out' status
-    → IsRun work old new out out' status
-faulted work old new out out' line status words tells reads writes left cause still put = record {
-  lasts = record { desk = tells; sink = put.tells; reads = reads; writes = writes; puts = put.later };
+faulted : (work : Work) (old new : World) (line : List ℕ) (status : ℕ)
+    → NotOfWords work → OfRack work old.rack new.rack
+    → new.desk.tells ≡ old.desk.tells → old.desk.read_faults ≤ new.desk.read_faults → old.desk.write_faults ≤ new.desk.write_faults
+    → (IsKnown work old new → work.may_stand (outside_of old) (outside_of new))
+    → (Rose old.desk.read_faults new.desk.read_faults × (line ≡ fault_line fault.ReadFault))
+    ⊎ (Rose old.desk.write_faults new.desk.write_faults × (line ≡ fault_line fault.WriteFault))
+    → (IsTrue work.only_reads ⊎ (IsKnown work old new × IsSome (work.refusal (outside_of old))) → new.desk.write_faults ≡ old.desk.write_faults)
+    → IsTold line 4 old.out new.out status
+    → IsRun work old new status
+faulted work old new line status words rack tells reads writes left cause still put = record {
+  lasts = record { desk = tells; sink = put.tells; reads = reads; writes = writes; puts = put.later; drives = rack.lasts };
   answer = λ d h. absurd (unsettled status h put.range);
   unput = λ d six noreads nowrites. absurd (⊎_elim (λ p. noreads p.0) (λ p. nowrites p.0) cause);
   stands = left;
   range = inr put.range;
-  only_refused = λ h. absurd (unsettled status (⊎_elim (λ two. inr (inr (inl two))) (λ p. inr (inr (inr p.1))) h) put.range);
+  only_refused = λ h. absurd (unsettled status (refusal_settled status _ h) put.range);
   refused = λ why e known. ⊎_elim (λ four. inr (inr (inr (four, words (outside_of old) why e)))) (⊎_elim (λ s. inr (inl s)) (λ s. inr (inr (inl s)))) put.range;
   cause = record {
     files = λ four. ⊎_elim
-        (λ p. inl (p.0, subst (λ (xs : List ℕ). Tells out out' xs) p.1 (put.whole four)))
-        (λ p. inr (p.0, subst (λ (xs : List ℕ). Tells out out' xs) p.1 (put.whole four)))
+        (λ p. inl (p.0, subst (λ (xs : List ℕ). Tells old.out new.out xs) p.1 (put.whole four)))
+        (λ p. inr (p.0, subst (λ (xs : List ℕ). Tells old.out new.out xs) p.1 (put.whole four)))
         cause;
+    drives = λ five. absurd (unsettled status (inr (inr (inr (inr five)))) put.range);
     output = put.cause;
-    memory = λ seven. begun_none out out' (fault_line fault.OutOfMemory) (put.nothing seven);
+    memory = λ seven. begun_none old.out new.out (fault_line fault.OutOfMemory) (put.nothing seven);
   };
   quiet = record {
     no_work = λ why e two. absurd (words (outside_of old) why e two);
     no_writes = still;
+    no_drives = rack.unused;
     output = put.quiet;
     settled = λ h. absurd (unsettled status h put.range);
   };
 }
 
-pub read_failed : (work : Work) (name : List ℕ) (old new : DeskState) (out out' : SinkState) (status : ℕ)
-    → NotOfWords work → WorksOn name old new true false
-    → (IsTrue old.tells → work.may_stand (outside_of old) (outside_of new))
-    → Ends (fault_line fault.ReadFault) 4 out out' status
-    → IsRun work old new out out' status
-read_failed work name old new out out' status words works left ends =
-    faulted work old new out out' (fault_line fault.ReadFault) status words works.tells works.reads_later works.writes_later left
+pub read_failed : (work : Work) (name : List ℕ) (old new : World) (status : ℕ)
+    → NotOfWords work → OfRack work old.rack new.rack → WorksOn name old.desk new.desk true false
+    → (IsKnown work old new → work.may_stand (outside_of old) (outside_of new))
+    → Ends (fault_line fault.ReadFault) 4 old.out new.out status
+    → IsRun work old new status
+read_failed work name old new status words rack works left ends =
+    faulted work old new (fault_line fault.ReadFault) status words rack works.tells works.reads_later works.writes_later left
     (inl (works.read_rose refl, refl)) (λ h. works.write_kept refl)
-    (told (fault_line fault.ReadFault) 4 out out' status (λ e. omega arith) (λ e. omega arith) ends)
+    (told (fault_line fault.ReadFault) 4 old.out new.out status (λ e. omega arith) (λ e. omega arith) ends)
 
 -- writing is tried only by work that does more than read, once nothing refuses it
-pub write_failed : (work : Work) (name : List ℕ) (old new : DeskState) (out out' : SinkState) (status : ℕ)
-    → NotOfWords work → work.only_reads ≡ false → WorksOn name old new false true
-    → (IsTrue old.tells → work.refusal (outside_of old) ≡ None)
-    → (IsTrue old.tells → work.may_stand (outside_of old) (outside_of new))
-    → Ends (fault_line fault.WriteFault) 4 out out' status
-    → IsRun work old new out out' status
-write_failed work name old new out out' status words more works none left ends =
-    faulted work old new out out' (fault_line fault.WriteFault) status words works.tells works.reads_later works.writes_later left
+pub write_failed : (work : Work) (name : List ℕ) (old new : World) (status : ℕ)
+    → NotOfWords work → work.only_reads ≡ false → OfRack work old.rack new.rack → WorksOn name old.desk new.desk false true
+    → (IsKnown work old new → work.refusal (outside_of old) ≡ None)
+    → (IsKnown work old new → work.may_stand (outside_of old) (outside_of new))
+    → Ends (fault_line fault.WriteFault) 4 old.out new.out status
+    → IsRun work old new status
+write_failed work name old new status words more rack works none left ends =
+    faulted work old new (fault_line fault.WriteFault) status words rack works.tells works.reads_later works.writes_later left
     (inr (works.write_rose refl, refl))
     (λ h. absurd (⊎_elim (λ only. not_false (subst IsTrue more only)) (λ p. not_some (work.refusal (outside_of old)) (none p.0) p.1) h))
-    (told (fault_line fault.WriteFault) 4 out out' status (λ e. omega arith) (λ e. omega arith) ends)
+    (told (fault_line fault.WriteFault) 4 old.out new.out status (λ e. omega arith) (λ e. omega arith) ends)
 
 -- how the line for want of memory was put
 record IsOver (out out' : SinkState) (status : ℕ) : Type 0 where
@@ -283,42 +381,51 @@ over_by out out' status (Err OutOfMemory) puts e = record {
   begun = begun_none out out' (fault_line fault.OutOfMemory) (λ t. puts.taken t);
 }
 
-run_over : (work : Work) (name : List ℕ) (old new : DeskState) (out out' : SinkState) (status : ℕ)
-    → NotOfWords work → WorksOn name old new false false
-    → (IsTrue old.tells → work.may_stand (outside_of old) (outside_of new))
-    → IsOver out out' status
-    → IsRun work old new out out' status
-run_over work name old new out out' status words works left over =
+run_over : (work : Work) (name : List ℕ) (old new : World) (status : ℕ)
+    → NotOfWords work → OfRack work old.rack new.rack → WorksOn name old.desk new.desk false false
+    → (IsKnown work old new → work.may_stand (outside_of old) (outside_of new))
+    → IsOver old.out new.out status
+    → IsRun work old new status
+run_over work name old new status words rack works left over =
     let seven : status ≡ 7 = over.seven in
     record {
-      lasts = record { desk = works.tells; sink = over.tells; reads = works.reads_later; writes = works.writes_later; puts = over.later };
+      lasts = record {
+        desk = works.tells;
+        sink = over.tells;
+        reads = works.reads_later;
+        writes = works.writes_later;
+        puts = over.later;
+        drives = rack.lasts;
+      };
       answer = λ d h. absurd (unsettled status h (inr (inr seven)));
       unput = λ d six noreads nowrites. absurd (omega (arith, six, seven));
       stands = left;
       range = inr (inr (inr seven));
-      only_refused = λ h. absurd (unsettled status (⊎_elim (λ two. inr (inr (inl two))) (λ p. inr (inr (inr p.1))) h) (inr (inr seven)));
+      only_refused = λ h. absurd (unsettled status (refusal_settled status _ h) (inr (inr seven)));
       refused = λ why e known. inr (inr (inl seven));
       cause = record {
         files = λ four. absurd (omega (arith, four, seven));
+        drives = λ five. absurd (omega (arith, five, seven));
         output = λ six. absurd (omega (arith, six, seven));
         memory = λ s. over.begun;
       };
       quiet = record {
         no_work = λ why e two. absurd (words (outside_of old) why e two);
         no_writes = λ h. works.write_kept refl;
+        no_drives = rack.unused;
         output = λ four. absurd (omega (arith, four, seven));
         settled = λ h. absurd (unsettled status h (inr (inr seven)));
       };
     }
 
 -- memory ran out
-pub out_of_memory : (work : Work) (name : List ℕ) (old new : DeskState) (out out' : SinkState) (status : ℕ)
-    → NotOfWords work → WorksOn name old new false false
-    → (IsTrue old.tells → work.may_stand (outside_of old) (outside_of new))
-    → Ends (fault_line fault.OutOfMemory) 7 out out' status
-    → IsRun work old new out out' status
-out_of_memory work name old new out out' status words works left ends =
-    run_over work name old new out out' status words works left (over_by out out' status ends.put ends.puts ends.number)
+pub out_of_memory : (work : Work) (name : List ℕ) (old new : World) (status : ℕ)
+    → NotOfWords work → OfRack work old.rack new.rack → WorksOn name old.desk new.desk false false
+    → (IsKnown work old new → work.may_stand (outside_of old) (outside_of new))
+    → Ends (fault_line fault.OutOfMemory) 7 old.out new.out status
+    → IsRun work old new status
+out_of_memory work name old new status words rack works left ends =
+    run_over work name old new status words rack works left (over_by old.out new.out status ends.put ends.puts ends.number)
 
 -- the line of a fault, as it is called elsewhere
 pub ends_by : (f f' : Fault) (out out' : SinkState) (status : ℕ) → f ≡ f'

@@ -15,11 +15,12 @@ use Rattle.rs01_report.specs.declared.reports.FixReport.{FixReport}
 use Rattle.rs01_report.specs.Faults.{fault_line, status_of}
 use Rattle.rs01_report.specs.Texts.{fix_lines}
 use Rattle.rs01_top.specs.Faults.{fix_fault}
-use Rattle.rs01_top.specs.Fix.{IsFixed, MayStandAfterFix, answer_to, fix_work, fixed_status}
-use Rattle.rs01_top.specs.Outside.{Outside, outside_of}
+use Rattle.rs01_top.specs.Fix.{IsFixed, answer_to, fix_work, fixed_status}
+use Rattle.rs01_top.specs.Outside.{Outside, told_by}
 use Rattle.rs01_top.specs.Work.{fault_in}
-use Rattle.rs01_top.specs.Run.{Ends, IsRun}
-use Rattle.rs01_top.proofs.Endings.{NotOfWords, done, out_of_memory, read_failed, refused, some_same, write_failed}
+use Rattle.rs01_top.specs.Run.{Ends, RunsAlone}
+use Rattle.rs01_top.proofs.Alone.{MayLeave, done, out_of_memory, read_failed, refused, write_failed}
+use Rattle.rs01_top.proofs.Endings.{NotOfWords, some_same}
 use Rattle.rs01_top.proofs.HeadFaults.{absent_is, head_is}
 use Rattle.rs01_top.proofs.Verifies.{none_or_one}
 
@@ -80,20 +81,20 @@ pub fixed : (image ecc : List ℕ) (cut : Bool) (old new : DeskState) (out out' 
     → WorksOn image old new false false
     → (IsTrue old.tells → IsOkAnd (fix_answer (old.files ecc) (old.files image) cut) (Repairs image old.files new.files report))
     → Ends (fix_lines report image) (fixed_status report) out out' status
-    → IsRun (fix_work image ecc cut) old new out out' status
+    → RunsAlone (fix_work image ecc cut) old new out out' status
 fixed image ecc cut old new out out' report status works is ends =
     let answer = fix_answer (old.files ecc) (old.files image) cut in
     done (fix_work image ecc cut) image old new out out' (fix_lines report image) (fixed_status report) status
     (not_of_words image ecc cut) (fixed_range report) works
-    (λ d. not_refused _ answer (is d))
-    (λ d. told_of answer image ecc (outside_of old) (outside_of new) report (is d))
-    (λ d. record { elsewhere = works.elsewhere d; left = stood answer image old.files new.files report (is d) })
+    (λ rack d. not_refused _ answer (is d))
+    (λ rack d. told_of answer image ecc (told_by old rack) (told_by new rack) report (is d))
+    (λ rack d. record { elsewhere = works.elsewhere d; left = stood answer image old.files new.files report (is d) })
     ends
 
 stands : (image ecc : List ℕ) (cut : Bool) (old new : DeskState) (reading writing : Bool) (why : FixRefusal) → WorksOn image old new reading writing
     → (IsTrue old.tells → Refuses image ecc cut old.files new.files why)
-    → IsTrue old.tells → MayStandAfterFix image ecc cut (outside_of old) (outside_of new)
-stands image ecc cut old new reading writing why works is d = record { elsewhere = works.elsewhere d; left = (is d).left }
+    → MayLeave (fix_work image ecc cut) old new
+stands image ecc cut old new reading writing why works is rack d = record { elsewhere = works.elsewhere d; left = (is d).left }
 
 -- the files are refused
 of_files : (image ecc : List ℕ) (cut : Bool) (old new : DeskState) (out out' : SinkState) (why : FixRefusal) (status : ℕ)
@@ -102,10 +103,10 @@ of_files : (image ecc : List ℕ) (cut : Bool) (old new : DeskState) (out out' :
     → (IsTrue old.tells → fix_answer (old.files ecc) (old.files image) cut ≡ Err why)
     → (IsTrue old.tells → new.files ≡ old.files)
     → Ends (fault_line (fix_fault why)) (status_of (fix_fault why)) out out' status
-    → IsRun (fix_work image ecc cut) old new out out' status
+    → RunsAlone (fix_work image ecc cut) old new out out' status
 of_files image ecc cut old new out out' why status three works is answer same ends =
     refused (fix_work image ecc cut) image old new out out' (fix_fault why) status (not_of_words image ecc cut) three works
-    (λ d. ap (λ (r : Result Repaired FixRefusal). fault_in fix_fault r) (answer d))
+    (λ rack d. ap (λ (r : Result Repaired FixRefusal). fault_in fix_fault r) (answer d))
     same (stands image ecc cut old new false false why works is) ends
 
 pub not_fixed : (image ecc : List ℕ) (cut : Bool) (old new : DeskState) (out out' : SinkState) (why : FixRefusal) (status : ℕ)
@@ -113,7 +114,7 @@ pub not_fixed : (image ecc : List ℕ) (cut : Bool) (old new : DeskState) (out o
     → (IsTrue old.tells → Refuses image ecc cut old.files new.files why)
     → (IsTrue old.tells → IsTrue (is_write_fault {T = FixReport} (Err why)) → IsOk (fix_answer (old.files ecc) (old.files image) cut))
     → Ends (fault_line (fix_fault why)) (status_of (fix_fault why)) out out' status
-    → IsRun (fix_work image ecc cut) old new out out' status
+    → RunsAlone (fix_work image ecc cut) old new out out' status
 not_fixed image ecc cut old new out out' (NoFile which) status works is last ends =
     of_files image ecc cut old new out out' (NoFile which) status (absent_is which) works is (λ d. (is d).refused tt) (λ d. (is d).unchanged tt) ends
 not_fixed image ecc cut old new out out' (Head why) status works is last ends =
@@ -127,7 +128,7 @@ not_fixed image ecc cut old new out out' ReadFault status works is last ends =
     (stands image ecc cut old new true false ReadFault works is) ends
 not_fixed image ecc cut old new out out' WriteFault status works is last ends =
     write_failed (fix_work image ecc cut) image old new out out' status (not_of_words image ecc cut) refl works
-    (λ d. accepted (fix_answer (old.files ecc) (old.files image) cut) (last d refl))
+    (λ rack d. accepted (fix_answer (old.files ecc) (old.files image) cut) (last d refl))
     (stands image ecc cut old new false true WriteFault works is) ends
 not_fixed image ecc cut old new out out' OutOfMemory status works is last ends =
     out_of_memory (fix_work image ecc cut) image old new out out' status (not_of_words image ecc cut) works

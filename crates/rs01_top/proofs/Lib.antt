@@ -1,3 +1,4 @@
+mod Alone
 mod Asks
 mod Creates
 mod Endings

@@ -13,11 +13,12 @@ use Rattle.rs01_verify.specs.Refusal.{is_read_fault}
 use Rattle.rs01_verify.specs.declared.refusal.VerifyRefusal.{VerifyRefusal}
 use Rattle.rs01_verify.specs.declared.refusal.VerifyRefusal.TheVariants.{NoFile, Head, Size, Body, ReadFault, OutOfMemory}
 use Rattle.rs01_top.specs.Faults.{verify_fault}
-use Rattle.rs01_top.specs.Outside.{outside_of}
+use Rattle.rs01_top.specs.Outside.{told_by}
 use Rattle.rs01_top.specs.Verify.{IsChecked, answer_to, checked_status, is_match, verify_work}
 use Rattle.rs01_top.specs.Work.{fault_in}
-use Rattle.rs01_top.specs.Run.{Ends, IsRun}
-use Rattle.rs01_top.proofs.Endings.{NotOfWords, done, out_of_memory, read_failed, refused, some_same}
+use Rattle.rs01_top.specs.Run.{Ends, RunsAlone}
+use Rattle.rs01_top.proofs.Alone.{done, out_of_memory, read_failed, refused}
+use Rattle.rs01_top.proofs.Endings.{NotOfWords, some_same}
 use Rattle.rs01_top.proofs.HeadFaults.{absent_is, head_is}
 
 pub none_or_one : (b : Bool) (n : ℕ) → n ≡ (if b then 0 else 1) → (n ≡ 0) ⊎ (n ≡ 1)
@@ -47,14 +48,14 @@ pub checked : (image ecc : List ℕ) (old new : DeskState) (out out' : SinkState
     → OnlyReads old new false
     → (IsTrue old.tells → verify_answer (old.files ecc) (old.files image) ≡ Ok report)
     → Ends (verify_lines report image) (checked_status report) out out' status
-    → IsRun (verify_work image ecc) old new out out' status
+    → RunsAlone (verify_work image ecc) old new out out' status
 checked image ecc old new out out' report status reads answer ends =
     done (verify_work image ecc) [] old new out out' (verify_lines report image) (checked_status report) status
     (not_of_words image ecc) (checked_range report) (works-reads [] old new false reads)
-    (λ d. ap (λ (r : Result VerifyReport VerifyRefusal). fault_in verify_fault r) (answer d))
-    (λ d. subst (λ (r : Result VerifyReport VerifyRefusal). IsOkAnd r (IsChecked image (outside_of old) (outside_of new) (verify_lines report image) (checked_status report)))
+    (λ rack d. ap (λ (r : Result VerifyReport VerifyRefusal). fault_in verify_fault r) (answer d))
+    (λ rack d. subst (λ (r : Result VerifyReport VerifyRefusal). IsOkAnd r (IsChecked image (told_by old rack) (told_by new rack) (verify_lines report image) (checked_status report)))
     (sym (answer d)) (record { files = reads.unchanged d; lines = refl; number = refl }))
-    (λ d. reads.unchanged d)
+    (λ rack d. reads.unchanged d)
     ends
 
 -- the files are refused
@@ -62,19 +63,19 @@ of_files : (image ecc : List ℕ) (old new : DeskState) (out out' : SinkState) (
     → status_of (verify_fault why) ≡ 3 → OnlyReads old new false
     → (IsTrue old.tells → verify_answer (old.files ecc) (old.files image) ≡ Err why)
     → Ends (fault_line (verify_fault why)) (status_of (verify_fault why)) out out' status
-    → IsRun (verify_work image ecc) old new out out' status
+    → RunsAlone (verify_work image ecc) old new out out' status
 of_files image ecc old new out out' why status three reads answer ends =
     refused (verify_work image ecc) [] old new out out' (verify_fault why) status (not_of_words image ecc) three (works-reads [] old new false reads)
-    (λ d. ap (λ (r : Result VerifyReport VerifyRefusal). fault_in verify_fault r) (answer d))
+    (λ rack d. ap (λ (r : Result VerifyReport VerifyRefusal). fault_in verify_fault r) (answer d))
     (λ d. reads.unchanged d)
-    (λ d. reads.unchanged d)
+    (λ rack d. reads.unchanged d)
     ends
 
 pub not_checked : (image ecc : List ℕ) (old new : DeskState) (out out' : SinkState) (why : VerifyRefusal) (status : ℕ)
     → OnlyReads old new (is_read_fault {T = VerifyReport} (Err why))
     → (IsTrue old.tells → IsAnswerOf (old.files ecc) (old.files image) (Err why))
     → Ends (fault_line (verify_fault why)) (status_of (verify_fault why)) out out' status
-    → IsRun (verify_work image ecc) old new out out' status
+    → RunsAlone (verify_work image ecc) old new out out' status
 not_checked image ecc old new out out' (NoFile which) status reads answer ends =
     of_files image ecc old new out out' (NoFile which) status (absent_is which) reads (λ d. answer d tt) ends
 not_checked image ecc old new out out' (Head why) status reads answer ends =
@@ -85,7 +86,7 @@ not_checked image ecc old new out out' (Body have want) status reads answer ends
     of_files image ecc old new out out' (Body have want) status refl reads (λ d. answer d tt) ends
 not_checked image ecc old new out out' ReadFault status reads answer ends =
     read_failed (verify_work image ecc) [] old new out out' status (not_of_words image ecc) (works-reads [] old new true reads)
-    (λ d. reads.unchanged d) ends
+    (λ rack d. reads.unchanged d) ends
 not_checked image ecc old new out out' OutOfMemory status reads answer ends =
     out_of_memory (verify_work image ecc) [] old new out out' status (not_of_words image ecc) (works-reads [] old new false reads)
-    (λ d. reads.unchanged d) ends
+    (λ rack d. reads.unchanged d) ends

@@ -31,4 +31,5 @@ create_work image ecc r = record {
   done = IsCreated image ecc r;
   may_stand = MayStandAfterCreate image ecc r;
   only_reads = false;
+  uses_drives = false;
 }

@@ -34,4 +34,5 @@ fix_work image ecc cut = record {
   done = λ old new put status. IsOkAnd (answer_to image ecc cut old) (IsFixed image old new put status);
   may_stand = MayStandAfterFix image ecc cut;
   only_reads = false;
+  uses_drives = false;
 }

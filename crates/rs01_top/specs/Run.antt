@@ -1,20 +1,22 @@
--- What holds of a run from one state of the desk and the output to another, whatever happened in it.
-use Rattle.std.specs.Prelude.{ℕ, ◌≡◌, ◌≢◌, ◌≤◌, ◌==◌, ◌⊎◌, if◌then◌else◌, List, true, false, IsTrue, IsSome, Some, Result, Ok, Err}
+-- What holds of a run from one state of the desk, the drives and the output to another, whatever happened in it.
+use Rattle.std.specs.Prelude.{ℕ, ◌≡◌, ◌≢◌, ◌≤◌, ◌==◌, ◌⊎◌, not, if◌then◌else◌, List, length, true, false, IsTrue, IsSome, Some, Result, Ok, Err}
 use Rattle.rs01_outside.specs.Causes.{Rose}
 use Rattle.rs01_outside.specs.DeskState.{DeskState}
+use Rattle.rs01_outside.specs.DriveState.{DriveState}
 use Rattle.rs01_outside.specs.SinkState.{SinkState, Takes}
+use Rattle.rs01_rack.specs.Rack.{AllTell, AtDrive, FaultsRose, RackState}
 use Rattle.rs01_report.specs.declared.faults.Fault.{Fault}
 use Rattle.rs01_report.specs.declared.faults.Fault.TheVariants as fault
 use Rattle.rs01_report.specs.declared.puts.PutRefusal.{PutRefusal}
 use Rattle.rs01_report.specs.declared.puts.PutRefusal.TheVariants.{SinkFault, OutOfMemory}
 use Rattle.rs01_report.specs.Faults.{fault_line, status_of}
 use Rattle.rs01_report.specs.Puts.{PutsText}
-use Rattle.rs01_top.specs.Outside.{outside_of}
+use Rattle.rs01_top.specs.Outside.{World, outside_of, world}
 use Rattle.rs01_top.specs.Work.{Answers, Work}
 
--- a status of a run that met no fault and no want of memory
+-- a status of a run that met no fault of a file or of the output, and no want of memory
 abbrev pub IsSettled : ℕ → Type 0
-IsSettled status = (status ≡ 0) ⊎ (status ≡ 1) ⊎ (status ≡ 2) ⊎ (status ≡ 3)
+IsSettled status = (status ≡ 0) ⊎ (status ≡ 1) ⊎ (status ≡ 2) ⊎ (status ≡ 3) ⊎ (status ≡ 5)
 
 -- exactly these bytes were put, where the sink tells
 abbrev pub Tells : SinkState → SinkState → List ℕ → Type 0
@@ -24,86 +26,122 @@ Tells out out' line = IsTrue out.tells → Takes false out.taken out'.taken line
 abbrev pub Begins : SinkState → SinkState → List ℕ → Type 0
 Begins out out' line = IsTrue out.tells → Takes true out.taken out'.taken line
 
--- desk and sink tell after the run what they told before, and no count of faults fell
-pub record Lasts (old new : DeskState) (out out' : SinkState) : Type 0 where
-  pub desk : new.tells ≡ old.tells
-  pub sink : out'.tells ≡ out.tells
-  pub reads : old.read_faults ≤ new.read_faults
-  pub writes : old.write_faults ≤ new.write_faults
-  pub puts : out.faults ≤ out'.faults
+-- what the run finds and leaves is known: the desk tells, and so do all drives afterwards, where the work uses them
+abbrev pub IsKnown : Work → World → World → Type 0
+IsKnown work old new = IsTrue old.desk.tells × (IsTrue work.uses_drives → AllTell new.rack)
 
--- after status 0 to 3 the files, the bytes put and the status are the answer to the words and the files
-abbrev pub IsAnswered : Work → DeskState → DeskState → SinkState → SinkState → ℕ → Type 0
-IsAnswered work old new out out' status = IsTrue old.tells → IsSettled status
-    → (put : List ℕ) × Answers work (outside_of old) (outside_of new) put status × Tells out out' put
+-- a drive that tells told before, and its count of faults didn't fall
+pub record DriveLasts (before after : DriveState) : Type 0 where
+  pub told_before : IsTrue after.tells → IsTrue before.tells
+  pub later : before.faults ≤ after.faults
 
--- after a fault of output alone the files are those of the answer, and some first bytes of its text were put
-abbrev pub IsUnput : Work → DeskState → DeskState → SinkState → SinkState → ℕ → Type 0
-IsUnput work old new out out' status = IsTrue old.tells → status ≡ 6
-    → ¬ Rose old.read_faults new.read_faults → ¬ Rose old.write_faults new.write_faults
-    → (put : List ℕ) × (number : ℕ) × Answers work (outside_of old) (outside_of new) put number × Begins out out' put
+-- the drives are as many as before, and this holds of each
+pub record RackLasts (old new : RackState) : Type 0 where
+  pub number : length new.drives ≡ length old.drives
+  pub each : (k : ℕ) → AtDrive old.drives new.drives k DriveLasts
+
+-- desk and sink tell after the run what they told before, no count of faults fell, and the drives stay
+pub record Lasts (old new : World) : Type 0 where
+  pub desk : new.desk.tells ≡ old.desk.tells
+  pub sink : new.out.tells ≡ old.out.tells
+  pub reads : old.desk.read_faults ≤ new.desk.read_faults
+  pub writes : old.desk.write_faults ≤ new.desk.write_faults
+  pub puts : old.out.faults ≤ new.out.faults
+  pub drives : RackLasts old.rack new.rack
+
+-- after status 0 to 3 or 5 the files, the drives' views, the bytes put and the status are the answer to the words, the
+-- files and the drives
+abbrev pub IsAnswered : Work → World → World → ℕ → Type 0
+IsAnswered work old new status = IsKnown work old new → IsSettled status
+    → (put : List ℕ) × Answers work (outside_of old) (outside_of new) put status × Tells old.out new.out put
+
+-- after a fault of output alone files and views are those of the answer, and some first bytes of its text were put
+abbrev pub IsUnput : Work → World → World → ℕ → Type 0
+IsUnput work old new status = IsKnown work old new → status ≡ 6
+    → ¬ Rose old.desk.read_faults new.desk.read_faults → ¬ Rose old.desk.write_faults new.desk.write_faults
+    → (put : List ℕ) × (number : ℕ) × Answers work (outside_of old) (outside_of new) put number × Begins old.out new.out put
 
 -- what may stand after any status
-abbrev pub Stands : Work → DeskState → DeskState → Type 0
-Stands work old new = IsTrue old.tells → work.may_stand (outside_of old) (outside_of new)
+abbrev pub Stands : Work → World → World → Type 0
+Stands work old new = IsKnown work old new → work.may_stand (outside_of old) (outside_of new)
 
 -- the statuses that there are
 abbrev pub IsStatus : ℕ → Type 0
 IsStatus status = IsSettled status ⊎ (status ≡ 4) ⊎ (status ≡ 6) ⊎ (status ≡ 7)
 
 -- what refuses the work has this status, and its line was put
-pub record TellsRefusal (work : Work) (desk : DeskState) (out out' : SinkState) (status : ℕ) : Type 0 where
+pub record TellsRefusal (work : Work) (old new : World) (status : ℕ) : Type 0 where
   pub why : Fault
-  pub first : work.refusal (outside_of desk) ≡ Some why
+  pub first : work.refusal (outside_of old) ≡ Some why
   pub number : status_of why ≡ status
-  pub line : Tells out out' (fault_line why)
+  pub line : Tells old.out new.out (fault_line why)
 
--- status 2 comes only where the words are refused, and status 3 only where the files are, on a desk that tells them; the
--- line of that refusal was put
-abbrev pub IsOnlyRefused : Work → DeskState → SinkState → SinkState → ℕ → Type 0
-IsOnlyRefused work desk out out' status =
-    (status ≡ 2) ⊎ (IsTrue desk.tells × (status ≡ 3)) → TellsRefusal work desk out out' status
+-- status 2 comes only where the words are refused, 3 only where the files are and 5 only where the drives are, as far as
+-- they are known; the line of that refusal was put
+abbrev pub IsOnlyRefused : Work → World → World → ℕ → Type 0
+IsOnlyRefused work old new status =
+    (status ≡ 2) ⊎ (IsKnown work old new × ((status ≡ 3) ⊎ (status ≡ 5))) → TellsRefusal work old new status
 
 -- a run that is refused has the refusal's status, unless the output fails, memory runs out, or a file can't be read or
 -- written before the refusal is found, which doesn't happen where the words are refused
-abbrev pub IsRefusedAs : Work → DeskState → ℕ → Type 0
-IsRefusedAs work desk status = (why : Fault) → work.refusal (outside_of desk) ≡ Some why
-    → (status_of why ≡ 2) ⊎ IsTrue desk.tells
+abbrev pub IsRefusedAs : Work → World → World → ℕ → Type 0
+IsRefusedAs work old new status = (why : Fault) → work.refusal (outside_of old) ≡ Some why
+    → (status_of why ≡ 2) ⊎ IsKnown work old new
     → (status ≡ status_of why) ⊎ (status ≡ 6) ⊎ (status ≡ 7) ⊎ ((status ≡ 4) × (status_of why ≢ 2))
 
+-- a drive that is said to have failed raised its count of faults
+abbrev pub RaisedCount : Fault → RackState → RackState → Type 0
+RaisedCount (fault.Failed drive) old new = AtDrive old.drives new.drives drive FaultsRose
+RaisedCount why old new = Unit {0}
+
+-- drives that the work uses are refused, for this cause
+pub record RefusesDrives (work : Work) (old new : World) : Type 0 where
+  pub used : IsTrue work.uses_drives
+  pub why : Fault
+  pub number : status_of why ≡ 5
+  pub raised : RaisedCount why old.rack new.rack
+  pub line : Tells old.out new.out (fault_line why)
+
 -- the causes of the other statuses, by the counts of faults, with the line that was put
-pub record HasCause (old new : DeskState) (out out' : SinkState) (status : ℕ) : Type 0 where
+pub record HasCause (work : Work) (old new : World) (status : ℕ) : Type 0 where
   pub files : status ≡ 4
-      → (Rose old.read_faults new.read_faults × Tells out out' (fault_line fault.ReadFault))
-      ⊎ (Rose old.write_faults new.write_faults × Tells out out' (fault_line fault.WriteFault))
-  pub output : status ≡ 6 → Rose out.faults out'.faults
-  pub memory : status ≡ 7 → Begins out out' (fault_line fault.OutOfMemory)
+      → (Rose old.desk.read_faults new.desk.read_faults × Tells old.out new.out (fault_line fault.ReadFault))
+      ⊎ (Rose old.desk.write_faults new.desk.write_faults × Tells old.out new.out (fault_line fault.WriteFault))
+  pub drives : status ≡ 5 → RefusesDrives work old new
+  pub output : status ≡ 6 → Rose old.out.faults new.out.faults
+  pub memory : status ≡ 7 → Begins old.out new.out (fault_line fault.OutOfMemory)
 
 -- no file was read or written without a fault being told
 abbrev pub NothingRose : DeskState → DeskState → Type 0
 NothingRose old new = (new.read_faults ≡ old.read_faults) × (new.write_faults ≡ old.write_faults)
 
 -- no fault is passed over, and where no file is to be read or written no call for it fails
-pub record IsQuiet (work : Work) (old new : DeskState) (out out' : SinkState) (status : ℕ) : Type 0 where
+pub record IsQuiet (work : Work) (old new : World) (status : ℕ) : Type 0 where
   -- words that are refused: no file is looked at
-  pub no_work : (why : Fault) → work.refusal (outside_of old) ≡ Some why → status_of why ≡ 2 → NothingRose old new
-  -- work that only reads, on any desk, and work that the files refuse: no file is written
-  pub no_writes : IsTrue work.only_reads ⊎ (IsTrue old.tells × IsSome (work.refusal (outside_of old)))
-      → new.write_faults ≡ old.write_faults
-  pub output : status ≡ 4 → out'.faults ≡ out.faults
-  pub settled : IsSettled status → NothingRose old new × (out'.faults ≡ out.faults)
+  pub no_work : (why : Fault) → work.refusal (outside_of old) ≡ Some why → status_of why ≡ 2 → NothingRose old.desk new.desk
+  -- work that only reads, on any desk, and work that is refused for what is known: no file is written
+  pub no_writes : IsTrue work.only_reads ⊎ (IsKnown work old new × IsSome (work.refusal (outside_of old)))
+      → new.desk.write_faults ≡ old.desk.write_faults
+  -- work that uses no drives: nothing is asked of them
+  pub no_drives : IsTrue (not work.uses_drives) → new.rack ≡ old.rack
+  pub output : status ≡ 4 → new.out.faults ≡ old.out.faults
+  pub settled : IsSettled status → NothingRose old.desk new.desk × (new.out.faults ≡ old.out.faults)
 
 -- all of it
-pub record IsRun (work : Work) (old new : DeskState) (out out' : SinkState) (status : ℕ) : Type 0 where
-  pub lasts : Lasts old new out out'
-  pub answer : IsAnswered work old new out out' status
-  pub unput : IsUnput work old new out out' status
+pub record IsRun (work : Work) (old new : World) (status : ℕ) : Type 0 where
+  pub lasts : Lasts old new
+  pub answer : IsAnswered work old new status
+  pub unput : IsUnput work old new status
   pub stands : Stands work old new
   pub range : IsStatus status
-  pub only_refused : IsOnlyRefused work old out out' status
-  pub refused : IsRefusedAs work old status
-  pub cause : HasCause old new out out' status
-  pub quiet : IsQuiet work old new out out' status
+  pub only_refused : IsOnlyRefused work old new status
+  pub refused : IsRefusedAs work old new status
+  pub cause : HasCause work old new status
+  pub quiet : IsQuiet work old new status
+
+-- a run that is not given the drives, so that they stay as they are, whatever they are
+abbrev pub RunsAlone : Work → (old new : DeskState) (out out' : SinkState) → ℕ → Type 0
+RunsAlone work old new out out' status = (rack : RackState) → IsRun work (world old rack out) (world new rack out') status
 
 -- the status once the last text was put, or not: the wanted one where it was put whole, 6 where the output failed, and 7
 -- for want of memory, which stays 7 whatever happens to its line

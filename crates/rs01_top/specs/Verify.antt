@@ -36,4 +36,5 @@ verify_work image ecc = record {
   done = λ old new put status. IsOkAnd (answer_to image ecc old) (IsChecked image old new put status);
   may_stand = λ old new. new.files ≡ old.files;
   only_reads = true;
+  uses_drives = false;
 }

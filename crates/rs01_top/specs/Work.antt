@@ -1,5 +1,5 @@
 -- What a run has to do, whatever its command.
-use Rattle.std.specs.Prelude.{ℕ, ◌≡◌, Bool, true, List, Option, Some, None, Result, Ok, Err}
+use Rattle.std.specs.Prelude.{ℕ, ◌≡◌, Bool, false, true, List, Option, Some, None, Result, Ok, Err}
 use Rattle.rs01_report.specs.declared.faults.Fault.{Fault}
 use Rattle.rs01_report.specs.Faults.{fault_line, status_of}
 use Rattle.rs01_top.specs.Outside.{Outside}
@@ -14,10 +14,13 @@ pub record Work : Type 1 where
   pub may_stand : Outside → Outside → Type 0
   -- whether it only reads files
   pub only_reads : Bool
+  -- whether it asks the drives; other work leaves them as they are
+  pub uses_drives : Bool
 
--- nothing changes, the fault's line is put, and the status is the fault's
+-- nothing changes, no sector is asked for, the fault's line is put, and the status is the fault's
 pub record IsRefused (why : Fault) (old new : Outside) (put : List ℕ) (status : ℕ) : Type 0 where
   pub files : new.files ≡ old.files
+  pub views : new.views ≡ old.views
   pub line : put ≡ fault_line why
   pub number : status ≡ status_of why
 
@@ -37,6 +40,7 @@ no_work why = record {
   done = λ old new put status. ⊥;
   may_stand = λ old new. new.files ≡ old.files;
   only_reads = true;
+  uses_drives = false;
 }
 
 -- the fault of an answer that is a refusal

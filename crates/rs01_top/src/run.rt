@@ -4,14 +4,17 @@ ghost use Rattle.rs01_words.specs.Command.{IsWithin, NamesDiffer};
 ghost use Rattle.rs01_words.specs.Line.{texts};
 ghost use Rattle.rs01_report.specs.Faults.{number_of};
 ghost use Rattle.rs01_top.specs.Asked.{work_for, work_of};
-ghost use Rattle.rs01_top.specs.Run.{HasCause, IsAnswered, IsOnlyRefused, IsQuiet, IsRefusedAs, IsRun, IsStatus, IsUnput, Lasts, Stands};
+ghost use Rattle.rs01_rack.specs.State.{rack_state};
+ghost use Rattle.rs01_top.specs.Outside.{world};
+ghost use Rattle.rs01_top.specs.Run.{IsRun};
 
 use crate::commands::create::run_create;
 use crate::commands::fix::run_fix;
 use crate::commands::verify::run_verify;
 use crate::ending::fail;
 use crate::faults::word_fault;
-use rs01_outside::{Desk, Sink};
+use rs01_outside::{Desk, Drive, Sink};
+use rs01_rack::Rack;
 use rs01_report::{Fault, Status};
 use rs01_words::{Command, read_words, word_at};
 use std::alloc::Global;
@@ -22,12 +25,15 @@ fn carry_out<D: Desk, S: Sink>(
     words: &[String],
     asked: &Command,
     desk: &mut D,
+    rack: &mut Rack,
     out: &mut S,
 ) -> Status
     requires within { IsWithin (length words.now) asked.now }
     requires names { NamesDiffer (texts words.now) asked.now }
-    ensures run { IsRun (work_of (texts words.now) asked.now) (D.state desk.old) (D.state desk.new)
-        (S.state out.old) (S.state out.new) (number_of result) }
+    ensures run { let drives = rack_state (λ b. (⟦<dyn Drive as Drive>⟧ b.vtable).state b.value) in
+        IsRun (work_of (texts words.now) asked.now)
+        (world (D.state desk.old) (drives rack.old) (S.state out.old))
+        (world (D.state desk.new) (drives rack.new) (S.state out.new)) (number_of result) }
 {
     match asked {
         Command::Create {
@@ -70,18 +76,31 @@ fn carry_out<D: Desk, S: Sink>(
 }
 
 // Reads the words and does what they ask for.
-fn answer<D: Desk, S: Sink>(alloc: Global, words: &[String], desk: &mut D, out: &mut S) -> Status
-    ensures run { IsRun (work_for (texts words.now)) (D.state desk.old) (D.state desk.new)
-        (S.state out.old) (S.state out.new) (number_of result) }
+fn answer<D: Desk, S: Sink>(
+    alloc: Global,
+    words: &[String],
+    desk: &mut D,
+    rack: &mut Rack,
+    out: &mut S,
+) -> Status
+    ensures run { let drives = rack_state (λ b. (⟦<dyn Drive as Drive>⟧ b.vtable).state b.value) in
+        IsRun (work_for (texts words.now))
+        (world (D.state desk.old) (drives rack.old) (S.state out.old))
+        (world (D.state desk.new) (drives rack.new) (S.state out.new)) (number_of result) }
 {
     match read_words(words) {
-        Ok(asked) => carry_out(alloc, words, &asked, desk, out),
+        Ok(asked) => carry_out(alloc, words, &asked, desk, rack, out),
         Err(refused) => fail(alloc, &word_fault(refused), out),
     }
 }
 
-/// Does what the words ask for: reads them, does the command on the files of `desk`, puts its report or the line of what
-/// went wrong into `out`, and gives the status.
+/// Does what the words ask for: reads them, does the command on the files of `desk` and the drives of `rack`, puts its
+/// report or the line of what went wrong into `out`, and gives the status.
+///
+/// Its clause holds of every run. Where desk and drives tell, files, views, bytes put and status are those that words,
+/// files and drives determine, and the definition says what may stand after a fault. On any desk, drives and output each
+/// other status has its cause in a count of faults, no fault is passed over, and drives that the words don't name stay as
+/// they are.
 ///
 /// | Status | Where |
 /// |---|---|
@@ -92,22 +111,17 @@ fn answer<D: Desk, S: Sink>(alloc: Global, words: &[String], desk: &mut D, out: 
 /// | 4 | a file could not be read or written |
 /// | 6 | the output could not be put |
 /// | 7 | memory ran out |
-pub fn run_one<D: Desk, S: Sink>(alloc: Global, words: &[String], desk: &mut D, out: &mut S) -> u8
-    ensures lasts { Lasts (D.state desk.old) (D.state desk.new)
-        (S.state out.old) (S.state out.new) }
-    ensures answer { IsAnswered (work_for (texts words.now)) (D.state desk.old) (D.state desk.new)
-        (S.state out.old) (S.state out.new) result }
-    ensures unput { IsUnput (work_for (texts words.now)) (D.state desk.old) (D.state desk.new)
-        (S.state out.old) (S.state out.new) result }
-    ensures stands { Stands (work_for (texts words.now)) (D.state desk.old) (D.state desk.new) }
-    ensures range { IsStatus result }
-    ensures only_refused { IsOnlyRefused (work_for (texts words.now)) (D.state desk.old)
-        (S.state out.old) (S.state out.new) result }
-    ensures refused { IsRefusedAs (work_for (texts words.now)) (D.state desk.old) result }
-    ensures cause { HasCause (D.state desk.old) (D.state desk.new)
-        (S.state out.old) (S.state out.new) result }
-    ensures quiet { IsQuiet (work_for (texts words.now)) (D.state desk.old) (D.state desk.new)
-        (S.state out.old) (S.state out.new) result }
+pub fn run_one<D: Desk, S: Sink>(
+    alloc: Global,
+    words: &[String],
+    desk: &mut D,
+    rack: &mut Rack,
+    out: &mut S,
+) -> u8
+    ensures run { let drives = rack_state (λ b. (⟦<dyn Drive as Drive>⟧ b.vtable).state b.value) in
+        IsRun (work_for (texts words.now))
+        (world (D.state desk.old) (drives rack.old) (S.state out.old))
+        (world (D.state desk.new) (drives rack.new) (S.state out.new)) result }
 {
-    answer(alloc, words, desk, out).number()
+    answer(alloc, words, desk, rack, out).number()
 }

@@ -2,6 +2,7 @@
 use crate::run_one;
 use rs01_fakes::{MemoryDesk, MemorySink};
 use rs01_outside::{Desk, Failed, Sink};
+use rs01_rack::Rack;
 use std::alloc::{AllocError, Global};
 use std::fmt::Write;
 use std::process::Abort;
@@ -16,6 +17,11 @@ fn words_of(alloc: Global, line: &str) -> Result<Vec<String>, AllocError> {
     Ok(words)
 }
 
+// A rack without drives.
+fn no_drives(alloc: Global) -> Result<Rack, AllocError> {
+    Rack::new(alloc, Vec::new(alloc))
+}
+
 // Runs a line, and tells the status and whether these bytes were put.
 fn puts<D: Desk>(
     alloc: Global,
@@ -25,7 +31,8 @@ fn puts<D: Desk>(
 ) -> Result<(u8, bool), AllocError> {
     let words = words_of(alloc, line)?;
     let mut out = MemorySink::new(alloc);
-    let status = run_one(alloc, &words, desk, &mut out);
+    let mut rack = no_drives(alloc)?;
+    let status = run_one(alloc, &words, desk, &mut rack, &mut out);
     Ok((status, out.bytes() == want.as_bytes() && out.faults() == 0))
 }
 
@@ -195,7 +202,8 @@ fn faults(rt: HostRuntime) -> Result<(), Fail> {
         desk.fail_call(call);
         let mut out = MemorySink::new(rt.alloc());
         out.fail_put(put);
-        let ended = run_one(rt.alloc(), &words, &mut desk, &mut out);
+        let mut rack = no_drives(rt.alloc())?;
+        let ended = run_one(rt.alloc(), &words, &mut desk, &mut rack, &mut out);
         assert_eq!(rt; ended, status, "call {call}");
         assert!(rt; out.bytes() == want.as_bytes(), "call {call}");
         assert_eq!(rt; size_of(&desk, "disc.ecc"), size, "call {call}");
@@ -214,7 +222,9 @@ fn protected(alloc: Global, len: usize, parity: u32) -> Result<MemoryDesk, Alloc
     let mut line = String::new(alloc);
     write!(line, "create disc.iso disc.ecc --parity {parity}")?;
     let words = words_of(alloc, line.as_str())?;
-    let _status = run_one(alloc, &words, &mut desk, &mut MemorySink::new(alloc));
+    let mut rack = no_drives(alloc)?;
+    let mut out = MemorySink::new(alloc);
+    let _status = run_one(alloc, &words, &mut desk, &mut rack, &mut out);
     Ok(desk)
 }
 
@@ -421,7 +431,8 @@ fn interrupted_creates(rt: HostRuntime) -> Result<(), Fail> {
             desk.fail_call(u64::MAX);
             let words = words_of(rt.alloc(), "verify disc.iso disc.ecc")?;
             let mut out = MemorySink::new(rt.alloc());
-            let status = run_one(rt.alloc(), &words, &mut desk, &mut out);
+            let mut rack = no_drives(rt.alloc())?;
+            let status = run_one(rt.alloc(), &words, &mut desk, &mut rack, &mut out);
             // A header has no byte behind its first 2047 that isn't zero, so the file is whole then.
             let want = if call == 5 && kept == 2047 { 0 } else { 3 };
             assert_eq!(rt; status, want, "call {call}, {kept} bytes kept");

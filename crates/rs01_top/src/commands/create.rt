@@ -2,7 +2,7 @@
 ghost use Rattle.std.specs.Prelude.{◌≤◌, ◌≢◌};
 ghost use Rattle.rs01_report.specs.Faults.{number_of};
 ghost use Rattle.rs01_top.specs.Create.{create_work};
-ghost use Rattle.rs01_top.specs.Run.{IsRun};
+ghost use Rattle.rs01_top.specs.Run.{RunsAlone};
 
 use crate::ending::{ended, fail};
 use crate::faults::create_fault;
@@ -23,7 +23,7 @@ pub fn run_create<D: Desk, S: Sink>(
     requires differ { image.now ≢ ecc.now }
     requires least { 8 ≤ parity }
     requires most { parity ≤ 100 }
-    ensures run { IsRun (create_work image.now ecc.now parity) (D.state desk.old) (D.state desk.new)
+    ensures run { RunsAlone (create_work image.now ecc.now parity) (D.state desk.old) (D.state desk.new)
         (S.state out.old) (S.state out.new) (number_of result) }
 {
     match create_one(alloc, desk, image, ecc, parity) {

@@ -2,7 +2,7 @@
 ghost use Rattle.std.specs.Prelude.{◌≡◌, ◌≢◌};
 ghost use Rattle.rs01_report.specs.Faults.{number_of};
 ghost use Rattle.rs01_top.specs.Fix.{fix_work, fixed_status};
-ghost use Rattle.rs01_top.specs.Run.{IsRun};
+ghost use Rattle.rs01_top.specs.Run.{RunsAlone};
 
 use crate::ending::{ended, fail};
 use crate::faults::fix_fault;
@@ -34,7 +34,7 @@ pub fn run_fix<D: Desk, S: Sink>(
     out: &mut S,
 ) -> Status
     requires { image.now ≢ ecc.now }
-    ensures run { IsRun (fix_work image.now ecc.now cut) (D.state desk.old) (D.state desk.new)
+    ensures run { RunsAlone (fix_work image.now ecc.now cut) (D.state desk.old) (D.state desk.new)
         (S.state out.old) (S.state out.new) (number_of result) }
 {
     match fix_one(alloc, desk, image, ecc, cut) {

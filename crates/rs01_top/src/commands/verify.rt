@@ -1,7 +1,7 @@
 //! The command `verify`.
 ghost use Rattle.std.specs.Prelude.{◌≡◌};
 ghost use Rattle.rs01_report.specs.Faults.{number_of};
-ghost use Rattle.rs01_top.specs.Run.{IsRun};
+ghost use Rattle.rs01_top.specs.Run.{RunsAlone};
 ghost use Rattle.rs01_top.specs.Verify.{checked_status, is_match, verify_work};
 
 use crate::ending::{ended, fail};
@@ -44,7 +44,7 @@ pub fn run_verify<D: Desk, S: Sink>(
     ecc: &str,
     out: &mut S,
 ) -> Status
-    ensures run { IsRun (verify_work image.now ecc.now) (D.state desk.old) (D.state desk.new)
+    ensures run { RunsAlone (verify_work image.now ecc.now) (D.state desk.old) (D.state desk.new)
         (S.state out.old) (S.state out.new) (number_of result) }
 {
     match verify(alloc, desk, image, ecc) {

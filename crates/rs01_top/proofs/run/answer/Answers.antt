@@ -5,5 +5,5 @@ use Rattle.rs01_top.proofs.run.answer.Goals as goal
 
 pub returns-in-Err : goal.returns-in-Err
 returns-in-Err g c = record {
-  run = word_run _ c.in-Err.refused _ _ _ _ _ (sym c.in-Err.ensures.answer) (ends_by _ _ _ _ _ c.word_fault.ensures c.fail.ensures);
+  run = word_run _ c.in-Err.refused _ _ _ _ _ _ (sym c.in-Err.ensures.answer) (ends_by _ _ _ _ _ c.word_fault.ensures c.fail.ensures);
 }
