@@ -3,4 +3,6 @@ mod ConditionLemmas
 mod CountLemmas
 mod FullnessLemmas
 mod PieceLemmas
+mod ScanAnswers
+mod ScanLemmas
 mod SurveyLemmas

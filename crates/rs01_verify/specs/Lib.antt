@@ -4,3 +4,5 @@ pub mod Fullness
 pub mod Report
 pub mod Answer
 pub mod Surveyed
+pub mod Scan
+pub mod Scanned
