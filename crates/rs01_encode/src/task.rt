@@ -118,7 +118,8 @@ fn encode_blocks(
 ) -> Result<Vec<u8>, AllocError>
     requires data_room { length data_.old ≡ 255 - input.now.parity_count }
     requires parity_room { length parity.old ≡ input.now.parity_count }
-    ensures { IfOk result (λ bytes. bytes.items ≡ layer_parity input.now.parity_count input.now.data_) }
+    ensures { IfOk result
+        (λ bytes. bytes.items ≡ layer_parity input.now.parity_count input.now.data_) }
 {
     let encoder = Encoder::new(input.parity_count);
     let mut bytes = Vec::with_capacity(alloc, 2048 * parity.len())?;

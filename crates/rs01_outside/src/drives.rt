@@ -15,7 +15,8 @@ pub trait Drive: Drop {
 
     /// The number of sectors.
     fn sectors(&mut self) -> Result<u32, Failed>
-        ensures answers { Answers (state self.old) (state self.new) (state self.old).view (is_err result) }
+        ensures answers { let view = (state self.old).view in
+            Answers (state self.old) (state self.new) view (is_err result) }
         ensures number { IsTrue (state self.new).tells → Counts (state self.old).view result };
 
     /// Reads the block of a sector. After a failure `into` holds anything.

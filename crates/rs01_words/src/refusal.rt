@@ -24,8 +24,8 @@ pub enum Pass {
 // Whether the option is given before a place as often as it may be. `word` is how it is written.
 fn is_used_up(verb: Verb, words: &[String], word: &str, place: usize, option: OptionWord) -> bool
     requires { place ≤ length words.now }
-    ensures { result
-        ≡ nat_le (row_of option).most (length (given_places verb (texts words.now) word.now place)) }
+    ensures { let given = given_places verb (texts words.now) word.now place in
+        result ≡ nat_le (row_of option).most (length given) }
 {
     let most = rule_of(option).most;
     given_place(verb, words, word, place, most - 1).is_some()
