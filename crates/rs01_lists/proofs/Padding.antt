@@ -1,6 +1,6 @@
 -- Zeros, and bytes followed by them.
-use Rattle.std.proofs.Common.{◌≡◌, ℕ, ◌+◌, ◌-◌, ◌≤◌, ⊎_elim, zero, suc, List, [], ◌∷◌, ◌++◌, length, get_or, replicate, refl, sym, ap, ◌∙◌, arith, append_assoc, append-nil, length-append}
-use Rattle.std.proofs.lemmas.List.{length-replicate, get_or_append_left, get_or-append_right, get_or_past}
+use Rattle.std.proofs.Common.{◌≡◌, ℕ, ◌+◌, ◌-◌, ◌≤◌, ⊎_elim, zero, suc, List, ◌∷◌, ◌++◌, length, get_or, take, replicate, refl, sym, ap, ◌∙◌, arith, length-append}
+use Rattle.std.proofs.lemmas.List.{length-replicate, get_or_append_left, get_or-append_right, get_or_past, take_all}
 use Rattle.std.proofs.lemmas.Bool.{cases_lt}
 use Rattle.rs01_lists.specs.Bytes.{padded, zeros}
 
@@ -20,15 +20,12 @@ unfolding zeros
 zeros-add zero n = ap (λ k. replicate k 0) (let e : 0 + n ≡ n = omega arith in e)
 zeros-add (suc m) n = ap (λ k. replicate k 0) (let e : suc m + n ≡ suc (m + n) = omega arith in e) ∙ ap (λ xs. 0 ∷ xs) (zeros-add m n)
 
--- one zero more behind zeros that stand behind a list
-pub zero-more : (before now after : List ℕ) (n : ℕ) → now ≡ before ++ zeros n → after ≡ now ++ 0 ∷ [] → after ≡ before ++ zeros (n + 1)
+-- a list that was lengthened with zeros
+pub lengthened : (old new : List ℕ) (len n count : ℕ) → len ≡ length old → n ≡ len + count
+    → new ≡ take n old ++ replicate (n - len) 0 → new ≡ old ++ zeros count
 unfolding zeros
-zero-more before now after n e put =
-    put ∙ ap (λ xs. xs ++ 0 ∷ []) e ∙ append_assoc before (zeros n) (0 ∷ []) ∙ ap (λ xs. before ++ xs) (sym (zeros-add n 1))
-
-pub no-zeros : (before : List ℕ) → before ≡ before ++ zeros 0
-unfolding zeros
-no-zeros before = sym (append-nil before)
+lengthened old new len n count own e f =
+    f ∙ (λ i. take_all n old (omega (arith, own, e)) i ++ replicate ((let rest : n - len ≡ count = omega (arith, e) in rest) i) 0)
 
 -- a list that was filled with zeros
 pub filled : (xs : List ℕ) (m n : ℕ) → m ≡ n → xs ≡ replicate m 0 → xs ≡ zeros n

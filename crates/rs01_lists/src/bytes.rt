@@ -26,9 +26,10 @@ pub fn copy_padded(bytes: &[u8], into: &mut [u8])
 pub fn push_zeros(count: usize, out: &mut Vec<u8>) -> Result<(), AllocError>
     ensures { OnOk result (out.new.items ≡ out.old.items ++ zeros count) }
 {
-    for _put in 0..count {
-        out.push(0)?;
-    }
+    let Some(len) = out.len().checked_add(count) else {
+        return Err(AllocError);
+    };
+    out.resize(len, 0)?;
     Ok(())
 }
 

@@ -20,5 +20,9 @@ fn items_and_zeros(rt: HostRuntime) -> Result<(), Fail> {
         copy_padded(&[7, 8], &mut buffer);
     }
     assert_eq!(rt; buffer.as_slice(), [7u8, 8, 0, 0].as_slice());
+    let mut out = vec![in alloc; 1u8]?;
+    push_padded(&[2], 3, &mut out)?;
+    push_zeros(0, &mut out)?;
+    assert_eq!(rt; out.as_slice(), [1u8, 2, 0, 0].as_slice());
     Ok(())
 }

@@ -1,8 +1,8 @@
-use Rattle.rs01_lists.proofs.Padding.{zero-more, no-zeros}
+use Rattle.std.proofs.Common.{arith}
+use Rattle.rs01_lists.proofs.Padding.{lengthened}
 use Rattle.rs01_lists.proofs.bytes.push_zeros.Goals as goal
 
-pub loop-put-init : goal.loop-put-init
-loop-put-init c = no-zeros c.args.out.now.items
-
-pub loop-put-preserved : goal.loop-put-preserved
-loop-put-preserved c = zero-more c.args.out.now.items c.loop-put.out.items _ c.loop-put._put c.loop-put.invariant c.in_ok-push.ensures.items
+pub returns : goal.returns
+returns c =
+    lengthened c.args.out.now.items c.resize.new.self.items c.args.out.now.len c.in-Some.len c.args.count
+    (omega (arith, c.type_inv.out)) (omega (arith, c.len.ensures, c.in-Some.ensures)) c.in_ok-resize.ensures.items
