@@ -4,7 +4,7 @@ use Rattle.std.specs.Prelude.{bit_xor}
 use Rattle.std.proofs.lemmas.Bool.{cond-true, cond-false, ne_eqb, cases_eq}
 use Rattle.rs01_gf256.specs.Field.{times}
 use Rattle.rs01_columns.specs.Program.{stepped}
-use Rattle.rs01_columns.specs.Bank.{AddTogether, AreWithin, TakeAlike, stepped_four}
+use Rattle.rs01_columns.specs.Running.{AddTogether, AreWithin, TakeAlike, stepped_four}
 use Rattle.rs01_columns.specs.Fours.{AreTablesOf, raised_by}
 use Rattle.rs01_columns.specs.declared.program.Step.{Step}
 use Rattle.rs01_columns.specs.declared.program.FourSteps.{FourSteps}

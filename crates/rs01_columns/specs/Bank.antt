@@ -1,12 +1,13 @@
 -- A bank: columns of 1024 bytes, each 1088 bytes behind the one before. Lane l holds byte l of each column.
-use Rattle.std.specs.Prelude.{◌≡◌, ◌≢◌, false, ℕ, Some, ◌+◌, ◌-◌, ◌*◌, ◌^◌, ◌<◌, ◌≤◌, List, drop, length, slice_get, slice_index}
-use Rattle.rs01_columns.specs.Program.{meaning, stepped}
-use Rattle.rs01_columns.specs.declared.program.Step.{Step}
-use Rattle.rs01_columns.specs.declared.program.FourSteps.{FourSteps}
+use Rattle.std.specs.Prelude.{◌≡◌, ◌≢◌, ℕ, ◌+◌, ◌-◌, ◌*◌, ◌<◌, ◌≤◌, List, length, slice_index}
 
 -- the bytes of lane l, by column
 abbrev pub lane : List ℕ → ℕ → ℕ → ℕ
 lane bank l j = slice_index bank (1088 * j + l)
+
+-- the bytes of a bank of so many columns
+abbrev pub IsBank : ℕ → List ℕ → Type 0
+IsBank columns bank = length bank ≡ 1088 * columns
 
 -- lane l of a bank with the columns of a word, and in it so many of these from the kth on
 pub record IsInBank (bank : List ℕ) (l k count : ℕ) : Type 0 where
@@ -36,73 +37,3 @@ pub record OnlyColumns (old new : List ℕ) (k m : ℕ) : Type 0 where
 pub record OnlyInLane (old new : List ℕ) (l k m : ℕ) : Type 0 where
   pub columns : OnlyColumns old new k m
   pub others : (i j : ℕ) → i < 1024 → i ≢ l → lane new i j ≡ lane old i j
-
--- in each lane the new byte of each column is what f makes of the old ones
-abbrev pub Becomes : List ℕ → List ℕ → ((ℕ → ℕ) → ℕ → ℕ) → Type 0
-Becomes old new f = (l : ℕ) → l < 1024 → (j : ℕ) → lane new l j ≡ f (lane old l) j
-
--- the bytes of a bank of so many columns
-abbrev pub IsBank : ℕ → List ℕ → Type 0
-IsBank columns bank = length bank ≡ 1088 * columns
-
--- a number of parity bytes that the code allows, and a number of columns with room for the values at as many roots
-pub record HasBounds (r columns : ℕ) : Type 0 where
-  pub least : 8 ≤ r
-  pub most : r ≤ 100
-  pub room : 255 + r ≤ columns
-  pub fits : columns ≤ 65536
-
--- a step between two different ones of the first n columns
-pub record IsWithin (n : ℕ) (s : Step) : Type 0 where
-  pub into : s.into < n
-  pub from : s.from < n
-  pub differ : s.into ≢ s.from
-  pub factor : s.factor < 2 ^ 8
-
--- four such steps
-pub record AreWithin (n : ℕ) (f : FourSteps) : Type 0 where
-  pub one : IsWithin n f.one
-  pub two : IsWithin n f.two
-  pub three : IsWithin n f.three
-  pub four : IsWithin n f.four
-
--- the four from this place on
-pub record AreAt (steps : List Step) (place : ℕ) (f : FourSteps) : Type 0 where
-  pub one : slice_get steps place ≡ Some f.one
-  pub two : slice_get steps (place + 1) ≡ Some f.two
-  pub three : slice_get steps (place + 2) ≡ Some f.three
-  pub four : slice_get steps (place + 3) ≡ Some f.four
-
--- the bytes after four steps
-abbrev pub stepped_four : FourSteps → (ℕ → ℕ) → ℕ → ℕ
-stepped_four f g = stepped f.four (stepped f.three (stepped f.two (stepped f.one g)))
-
--- four steps that add to the same column
-pub record AddTogether (f : FourSteps) : Type 0 where
-  pub second : f.two.into ≡ f.one.into
-  pub third : f.three.into ≡ f.one.into
-  pub fourth : f.four.into ≡ f.one.into
-  pub one_adds : f.one.fresh ≡ false
-  pub two_adds : f.two.fresh ≡ false
-  pub three_adds : f.three.fresh ≡ false
-  pub four_adds : f.four.fresh ≡ false
-
--- the second four take from the same columns as the first four, and add to a column behind theirs
-pub record TakeAlike (f g : FourSteps) : Type 0 where
-  pub one : g.one.from ≡ f.one.from
-  pub two : g.two.from ≡ f.two.from
-  pub three : g.three.from ≡ f.three.from
-  pub four : g.four.from ≡ f.four.from
-  pub behind : f.one.into < g.one.into
-
--- two fours that can be added to their columns at once
-pub record ArePaired (f g : FourSteps) : Type 0 where
-  pub first : AddTogether f
-  pub second : AddTogether g
-  pub alike : TakeAlike f g
-
--- the steps from `place` to `next` are run: what is left makes of the new bank what was left made of the old one
-pub record Advances (steps : List Step) (place next : ℕ) (old new : List ℕ) : Type 0 where
-  pub on : place < next
-  pub most : next ≤ length steps
-  pub same : (l : ℕ) → l < 1024 → (j : ℕ) → meaning (drop next steps) (lane new l) j ≡ meaning (drop place steps) (lane old l) j

@@ -3,6 +3,7 @@ pub mod Ranges
 pub mod Fours
 pub mod Program
 pub mod Bank
+pub mod Running
 pub mod Certificate
 pub mod Layer
 pub mod Keeping

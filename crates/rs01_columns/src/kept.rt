@@ -1,7 +1,7 @@
 //! A program with what it runs by.
 
 ghost use Rattle.std.specs.Prelude.{◌≡◌, IfOk, IfSome};
-ghost use Rattle.rs01_columns.specs.Bank.{HasBounds};
+ghost use Rattle.rs01_columns.specs.Running.{HasBounds};
 
 use crate::products::Products;
 use crate::program::{Program, Step};

@@ -3,7 +3,7 @@
 //! A column holds a byte of each of many codewords. A program adds multiples of columns to others.
 
 ghost use Rattle.std.specs.Prelude.{◌≡◌, ◌≤◌, All, IfSome, IsTrue};
-ghost use Rattle.rs01_columns.specs.Bank.{IsWithin};
+ghost use Rattle.rs01_columns.specs.Running.{IsWithin};
 
 /// Adds `factor` times the column `from` to the column `into`, which is cleared before where it
 /// begins `fresh`.

@@ -1,7 +1,8 @@
 //! The interpreter of column programs.
 
 ghost use Rattle.std.specs.Prelude.{◌≡◌, ℕ, ◌+◌, ◌*◌, ◌%◌, ◌<◌, ◌≤◌, IsTrue, length, slice_index};
-ghost use Rattle.rs01_columns.specs.Bank.{AddTogether, Advances, AreAt, ArePaired, AreWithin, Becomes, IsBank, IsWithin, TakeAlike, stepped_four};
+ghost use Rattle.rs01_columns.specs.Bank.{IsBank};
+ghost use Rattle.rs01_columns.specs.Running.{AddTogether, Advances, AreAt, ArePaired, AreWithin, Becomes, IsWithin, TakeAlike, stepped_four};
 ghost use Rattle.rs01_columns.specs.Fours.{ArePlacesOf};
 ghost use Rattle.rs01_columns.specs.Ranges.{FitApart, IsRaised, OnlyHere};
 ghost use Rattle.rs01_columns.specs.Program.{begun, meaning, raised, stepped};

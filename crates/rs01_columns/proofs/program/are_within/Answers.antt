@@ -1,5 +1,5 @@
 use Rattle.std.proofs.Common.{arith}
-use Rattle.rs01_columns.specs.Bank.{IsWithin}
+use Rattle.rs01_columns.specs.Running.{IsWithin}
 use Rattle.rs01_columns.proofs.Within.{all_more, all_done}
 use Rattle.rs01_columns.proofs.program.are_within.Goals as goal
 

@@ -1,5 +1,5 @@
 use Rattle.std.proofs.Common.{All, take}
-use Rattle.rs01_columns.specs.Bank.{IsWithin}
+use Rattle.rs01_columns.specs.Running.{IsWithin}
 use Rattle.rs01_columns.proofs.program.are_within.Given as goal
 
 abbrev pub invariant-loop-step : goal.invariant-loop-step
