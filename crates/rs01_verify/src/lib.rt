@@ -12,3 +12,6 @@ mod verifying;
 pub use refusal::VerifyRefusal;
 pub use scanning::scan;
 pub use verifying::verify;
+
+#[cfg(test)]
+mod tests;
