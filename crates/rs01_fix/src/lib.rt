@@ -11,3 +11,6 @@ mod told;
 
 pub use fixing::fix_one;
 pub use refusal::FixRefusal;
+
+#[cfg(test)]
+mod tests;

@@ -1,0 +1,253 @@
+//! A small image that is repaired.
+use super::*;
+use md5::{Digest, Md5};
+use rs01_ecchead::{Head, HeadRefusal, Which, write_head};
+use rs01_fakes::MemoryDesk;
+use rs01_lists::push_zeros;
+use rs01_outside::Desk;
+use rs01_report::{FixReport, Strange, Why};
+use rs01_sums::{crc32, marker};
+use std::alloc::{AllocError, Global};
+use std::process::Abort;
+use std::test::Fail;
+
+// The error correction file of an image of 10 sectors of zeros: 8 parity bytes a codeword, which are zeros too.
+fn ecc_bytes(alloc: Global) -> Result<Vec<u8>, AllocError> {
+    let block = [0u8; 2048];
+    let mut body = Vec::new(alloc);
+    for _sector in 0..10 {
+        body.extend_from_slice(&crc32(&block).to_le_bytes())?;
+    }
+    push_zeros(2048 * 8, &mut body)?;
+    let head = Head {
+        flags: 0,
+        fingerprint: Md5::digest(&block),
+        image_sum: Md5::digest(&[0u8; 20_480]),
+        body_sum: Md5::digest(&body),
+        sectors: 10,
+        parity: 8,
+        creator: 1,
+        needed: 1,
+        mark_sector: 9,
+        last_bytes: 2048,
+    };
+    let mut header = [0u8; 4096];
+    write_head(&head, &mut header);
+    let mut bytes = Vec::new(alloc);
+    bytes.extend_from_slice(&header)?;
+    bytes.extend_from_slice(&body)?;
+    Ok(bytes)
+}
+
+// A desk with that image and its error correction file.
+fn protected(alloc: Global) -> Result<MemoryDesk, AllocError> {
+    let mut desk = MemoryDesk::new(alloc);
+    desk.put_file(alloc, "disc.iso", &[0u8; 20_480])?;
+    desk.put_file(alloc, "disc.ecc", &ecc_bytes(alloc)?)?;
+    Ok(desk)
+}
+
+// A file is cut, and then bytes are put at a place of it.
+fn change(desk: &mut MemoryDesk, name: &str, len: u64, at: u64, bytes: &[u8]) -> bool {
+    desk.cut(name, len).is_ok() && desk.write_at(name, at, bytes).is_ok()
+}
+
+fn fix(alloc: Global, desk: &mut MemoryDesk, cut: bool) -> Result<FixReport, FixRefusal> {
+    fix_one(alloc, desk, "disc.iso", "disc.ecc", cut)
+}
+
+// Whether the image has so many bytes, all of them zeros.
+fn is_zeros(desk: &MemoryDesk, len: usize) -> bool {
+    let bytes = desk.file("disc.iso").unwrap_or(&[]);
+    bytes.len() == len && bytes.iter().all(|byte| *byte == 0)
+}
+
+#[derive(Clone, Copy)]
+struct Row {
+    // how the image is cut, and the bytes that are put at a place of it
+    len: u64,
+    at: u64,
+    bytes: &'static [u8],
+    cut: bool,
+    restored: &'static [u32],
+    surplus: u64,
+    was_cut: bool,
+    // how many bytes it has afterwards
+    left: usize,
+}
+
+const WHOLE: Row = Row {
+    len: 20_480,
+    at: 0,
+    bytes: b"",
+    cut: false,
+    restored: &[],
+    surplus: 0,
+    was_cut: false,
+    left: 20_480,
+};
+
+#[test]
+fn images_come_back(rt: HostRuntime) -> Result<(), Fail> {
+    for row in [
+        WHOLE,
+        Row {
+            at: 4 * 2048 + 2047,
+            bytes: b"!!",
+            restored: &[4, 5],
+            ..WHOLE
+        },
+        Row {
+            len: 16_385,
+            restored: &[8, 9],
+            ..WHOLE
+        },
+        Row {
+            at: 22_000,
+            bytes: b"\0",
+            surplus: 1521,
+            left: 22_001,
+            ..WHOLE
+        },
+        Row {
+            at: 22_000,
+            bytes: b"!",
+            cut: true,
+            surplus: 1521,
+            was_cut: true,
+            ..WHOLE
+        },
+        Row { cut: true, ..WHOLE },
+    ] {
+        let mut desk = protected(rt.alloc())?;
+        assert!(rt; change(&mut desk, "disc.iso", row.len, row.at, row.bytes));
+        let report = fix(rt.alloc(), &mut desk, row.cut)?;
+        assert!(rt; report.restored.items() == row.restored);
+        assert!(rt; report.lost.len() == 0 && report.strange.len() == 0);
+        assert_eq!(rt; (report.surplus, report.cut), (row.surplus, row.was_cut));
+        assert!(rt; is_zeros(&desk, row.left), "{} bytes", row.len);
+    }
+    Ok(())
+}
+
+// Nine of ten sectors are gone, which is one more than there are parity bytes: those that are absent get their markers.
+#[test]
+fn markers_of_absent_sectors(rt: HostRuntime) -> Result<(), Fail> {
+    let mut desk = protected(rt.alloc())?;
+    assert!(rt; change(&mut desk, "disc.iso", 2053, 0, b""));
+    let report = fix(rt.alloc(), &mut desk, false)?;
+    assert!(rt; report.restored.len() == 0 && report.strange.len() == 0);
+    assert!(rt; report.lost.items() == [1u32, 2, 3, 4, 5, 6, 7, 8, 9].as_slice());
+    let mut want = protected(rt.alloc())?;
+    let mut block = [0u8; 2048];
+    for sector in 1..10 {
+        marker(sector, &mut block);
+        assert!(rt;
+            want.write_at("disc.iso", 2048 * u64::from(sector), &block)
+                .is_ok()
+        );
+    }
+    assert!(rt; desk.file("disc.iso") == want.file("disc.iso"));
+    Ok(())
+}
+
+// Puts a byte into the error correction file, and makes its digest anew.
+fn change_ecc(desk: &mut MemoryDesk, at: u64) -> bool {
+    if desk.write_at("disc.ecc", at, b"?").is_err() {
+        return false;
+    }
+    let file = desk.file("disc.ecc").unwrap_or(&[]);
+    let sum = Md5::digest(file.get(4096..).unwrap_or(&[]));
+    desk.write_at("disc.ecc", 52, &sum).is_ok()
+}
+
+#[test]
+fn strange_layers(rt: HostRuntime) -> Result<(), Fail> {
+    // A parity byte of codeword 5, and a byte of the checksum of sector 3.
+    let cases: [(u64, &[u32], Why); 2] = [
+        (4136 + 5 * 8, &[], Why::Codeword(5)),
+        (4096 + 4 * 3, &[3], Why::Sum(3)),
+    ];
+    for (at, lost, why) in cases {
+        let mut desk = protected(rt.alloc())?;
+        assert!(rt; change_ecc(&mut desk, at));
+        let report = fix(rt.alloc(), &mut desk, false)?;
+        assert!(rt; report.strange.items() == [Strange { layer: 0, why }].as_slice());
+        assert!(rt; report.lost.items() == lost && report.restored.len() == 0);
+        assert!(rt; is_zeros(&desk, 20_480), "byte {at}");
+    }
+    Ok(())
+}
+
+#[test]
+fn refusals(rt: HostRuntime) -> Result<(), Fail> {
+    // How the error correction file is cut, and the byte that is put in it.
+    let cases: [(u64, u64, &[u8], FixRefusal); 3] = [
+        (
+            20_519,
+            0,
+            b"",
+            FixRefusal::Size {
+                have: 20_519,
+                want: 20_520,
+            },
+        ),
+        (
+            4095,
+            0,
+            b"",
+            FixRefusal::Size {
+                have: 4095,
+                want: 4096,
+            },
+        ),
+        (20_520, 0, b"+", FixRefusal::Head(HeadRefusal::Cookie)),
+    ];
+    for (len, at, bytes, want) in cases {
+        let mut desk = protected(rt.alloc())?;
+        assert!(rt; change(&mut desk, "disc.ecc", len, at, bytes));
+        assert!(rt;
+            fix(rt.alloc(), &mut desk, false).err() == Some(want),
+            "{len} bytes"
+        );
+        assert!(rt; is_zeros(&desk, 20_480));
+    }
+    let mut desk = MemoryDesk::new(rt.alloc());
+    let absent = fix(rt.alloc(), &mut desk, false).err();
+    assert!(rt; absent == Some(FixRefusal::NoFile(Which::Ecc)));
+    desk.put_file(rt.alloc(), "disc.ecc", &ecc_bytes(rt.alloc())?)?;
+    let absent = fix(rt.alloc(), &mut desk, false).err();
+    assert!(rt; absent == Some(FixRefusal::NoFile(Which::Image)));
+    assert!(rt; desk.file("disc.iso").is_none());
+    Ok(())
+}
+
+// The calls are size, header, checksums and parity of the one file, size and bytes of the other, the parity of the layer,
+// the writes of sectors 0 and 1, and the cut. After a fault a second repair goes on.
+#[test]
+fn each_call_failing_in_turn(rt: HostRuntime) -> Result<(), Fail> {
+    for call in 0..10 {
+        let mut desk = protected(rt.alloc())?;
+        assert!(rt; change(&mut desk, "disc.iso", 20_480, 2047, b"!!"));
+        assert!(rt; desk.write_at("disc.iso", 20_480, b"!").is_ok());
+        let mut again = MemoryDesk::new(rt.alloc());
+        again.put_file(rt.alloc(), "disc.ecc", desk.file("disc.ecc").unwrap_or(&[]))?;
+        again.put_file(rt.alloc(), "disc.iso", desk.file("disc.iso").unwrap_or(&[]))?;
+        again.fail_call(call);
+        again.keep_prefix(Some(100));
+        let refused = fix(rt.alloc(), &mut again, true).err();
+        let reading = call < 7;
+        let want = if reading {
+            FixRefusal::ReadFault
+        } else {
+            FixRefusal::WriteFault
+        };
+        assert!(rt; refused == Some(want), "call {call}");
+        assert!(rt;
+            again.read_faults() == u64::from(reading) && again.write_faults() == u64::from(!reading)
+        );
+        assert!(rt; fix(rt.alloc(), &mut again, true).is_ok());
+        assert!(rt; is_zeros(&again, 20_480), "call {call}");
+    }
+    Ok(())
+}
