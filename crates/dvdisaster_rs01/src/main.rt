@@ -8,6 +8,7 @@ use rs01_outside::Drive;
 use rs01_rack::Rack;
 use rs01_top::run_one;
 use rs01_words::drive_names;
+use std::alloc::{AllocError, Global};
 use std::env;
 use std::io::{self, ErrorKind};
 use std::process::ExitCode;
@@ -19,6 +20,17 @@ const NO_WORDS: u8 = 8;
 
 // The grammar has no more drives in a line.
 const MOST_DRIVES: usize = 16;
+
+// The memory that the system's allocator is to keep.
+const KEPT: usize = 16 * 1024 * 1024;
+
+// Takes a block and gives it back, without touching it. The allocator of the system takes this as a sign that blocks of
+// such a size come again, and keeps what is freed from then on: else it would hand each layer's buffers back to the
+// system, and take them anew for the next layer. Where there is no such block, all goes on without.
+fn keep_freed_memory(alloc: Global) {
+    let block: Result<Vec<u8>, AllocError> = Vec::with_capacity(alloc, KEPT);
+    drop(block);
+}
 
 // The status of a run whose words can't be had.
 fn wordless(error: &io::Error) -> u8 {
@@ -49,6 +61,7 @@ fn main(rt: HostRuntime) -> ExitCode {
         Ok(words) => words,
         Err(status) => return ExitCode::from(status),
     };
+    keep_freed_memory(rt.alloc());
     let Ok(files) = rt.clone() else {
         return ExitCode::from(NO_MEMORY);
     };
