@@ -1,6 +1,6 @@
 //! Multiples of columns are added to others.
 
-ghost use Rattle.std.specs.Prelude.{◌≡◌, ℕ, ◌+◌, ◌*◌, ◌/◌, ◌%◌, ◌<◌, ◌≤◌, length, slice_index, bit_xor};
+ghost use Rattle.std.specs.Prelude.{◌≡◌, ℕ, ◌+◌, ◌%◌, ◌<◌, ◌≤◌, length, slice_index, bit_xor};
 ghost use Rattle.rs01_columns.specs.Lanes.{HasLanes, HoldsProducts};
 ghost use Rattle.rs01_columns.specs.Ranges.{HasAdded, IsRaised, OnlyHere};
 ghost use Rattle.rs01_columns.specs.Fours.{AreBothRaised, AreLoaded, AreRaised, AreTablesOf, BothTakeFour, HasRoom, HasRoomForBoth, OnlyInBoth, TakesFour, places_on, raised_by};

@@ -1,6 +1,6 @@
 //! The bytes of a layer, laid into a bank and read from it.
 
-ghost use Rattle.std.specs.Prelude.{◌≡◌, ℕ, ◌+◌, ◌-◌, ◌*◌, ◌<◌, ◌≤◌, length, slice_index};
+ghost use Rattle.std.specs.Prelude.{◌≡◌, ℕ, ◌+◌, ◌-◌, ◌*◌, ◌≤◌, length, slice_index};
 ghost use Rattle.rs01_columns.specs.Bank.{IsInBank, LaneHolds, LaneHoldsFrom, LanesHoldParity, OnlyColumns, OnlyInLane, lane};
 ghost use Rattle.rs01_columns.specs.Certificate.{LanesHold};
 ghost use Rattle.rs01_columns.specs.Layer.{ArePartBlocks, IsPart, IsPartParity, data_at, word_at};

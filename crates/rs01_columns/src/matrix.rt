@@ -3,7 +3,7 @@
 //! Where only the bytes at some places are not zero, as many values tell them. A polynomial is an
 //! array of its coefficients here, the lowest first.
 
-ghost use Rattle.std.specs.Prelude.{◌+◌, ◌*◌, ◌<◌, ◌≤◌, All, length};
+ghost use Rattle.std.specs.Prelude.{◌<◌, ◌≤◌, All, length};
 
 use crate::draft::{Draft, VALUES};
 use rs01_gf256::{Gf, pow_root};

@@ -1,6 +1,6 @@
 //! The interpreter of column programs.
 
-ghost use Rattle.std.specs.Prelude.{◌≡◌, ℕ, ◌+◌, ◌*◌, ◌%◌, ◌<◌, ◌≤◌, IsTrue, length, slice_index};
+ghost use Rattle.std.specs.Prelude.{◌≡◌, ℕ, ◌+◌, ◌%◌, ◌<◌, ◌≤◌, IsTrue, length, slice_index};
 ghost use Rattle.rs01_columns.specs.Bank.{IsBank};
 ghost use Rattle.rs01_columns.specs.Running.{AddTogether, Advances, AreAt, ArePaired, AreWithin, Becomes, IsWithin, TakeAlike, stepped_four};
 ghost use Rattle.rs01_columns.specs.Fours.{ArePlacesOf};

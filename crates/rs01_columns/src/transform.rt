@@ -4,7 +4,7 @@
 //! below 3, b below 5 and c below 17. For each c the fifteen columns are transformed in place, first
 //! by threes and then by fives; each value is then a sum of 17 multiples.
 
-ghost use Rattle.std.specs.Prelude.{◌+◌, ◌*◌, ◌<◌, ◌≤◌};
+ghost use Rattle.std.specs.Prelude.{◌+◌, ◌<◌, ◌≤◌};
 
 use crate::draft::{Draft, VALUES};
 use rs01_gf256::{Gf, pow_root};
