@@ -4,7 +4,7 @@
 //! all its words are codewords, these are the blocks. Where one is none, the plain call tells whether
 //! it is inconsistent.
 
-ghost use Rattle.std.specs.Prelude.{◌≡◌, ℕ, ◌+◌, ◌-◌, ◌*◌, ◌<◌, ◌≤◌, All, IfOk, length};
+ghost use Rattle.std.specs.Prelude.{◌≡◌, ◌+◌, ◌-◌, ◌*◌, ◌<◌, ◌≤◌, All, IfOk, length};
 ghost use Rattle.rs01_erase.specs.Completed.{AreBlocksAt, AreCompleted};
 ghost use Rattle.rs01_erase.specs.Correcting.{correct};
 ghost use Rattle.rs01_erase.specs.Restoring.{AreErased, AreFilled};

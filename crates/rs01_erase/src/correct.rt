@@ -1,6 +1,6 @@
 //! Correcting a layer codeword by codeword: the plain program.
 
-ghost use Rattle.std.specs.Prelude.{◌≡◌, ℕ, ◌+◌, ◌-◌, ◌*◌, ◌<◌, ◌≤◌, All, IfOk, length, slice_index, take};
+ghost use Rattle.std.specs.Prelude.{◌≡◌, ℕ, ◌+◌, ◌-◌, ◌*◌, ◌<◌, ◌≤◌, All, IfOk, length, take};
 ghost use Rattle.rs01_erase.specs.Correcting.{blocks_in, correct};
 ghost use Rattle.rs01_erase.specs.LayerValue.{erased_places, word_of};
 ghost use Rattle.rs01_erase.specs.Restoring.{AreErased, HoldsCodeword, HoldsCodewords, HoldsOthers, HoldsWord, bad_sum_in, block_in, completed_at, placed_blocks, word_if};

@@ -1,6 +1,6 @@
 //! Values from their power sums.
 
-ghost use Rattle.std.specs.Prelude.{◌≡◌, ◌≢◌, ℕ, ◌+◌, ◌-◌, ◌<◌, ◌≤◌, ◌↔◌, List, ◌∷◌, All, IsTrue, bit_xor, length, slice_index};
+ghost use Rattle.std.specs.Prelude.{◌≡◌, ◌≢◌, ℕ, ◌-◌, ◌<◌, ◌≤◌, ◌↔◌, List, ◌∷◌, All, IsTrue, bit_xor, length, slice_index};
 ghost use Rattle.rs01_gf256.specs.Field.{times};
 ghost use Rattle.rs01_erase.specs.PowerSums.{AreQuotients, AreSolvedBy, AreValues, Differ, power_sum};
 

@@ -1,6 +1,6 @@
 //! Restoring one codeword.
 
-ghost use Rattle.std.specs.Prelude.{◌≡◌, ◌≢◌, ℕ, ◌+◌, ◌-◌, ◌*◌, ◌^◌, ◌<◌, ◌≤◌, ◌↔◌, All, None, IsOk, IsErr, IsTrue, false, length, map, slice_index};
+ghost use Rattle.std.specs.Prelude.{◌≡◌, ℕ, ◌+◌, ◌-◌, ◌*◌, ◌^◌, ◌<◌, ◌≤◌, ◌↔◌, All, None, IsOk, IsErr, IsTrue, false, length, map, slice_index};
 ghost use Rattle.rs01_poly.specs.Code.{AgreeOutside, root};
 ghost use Rattle.rs01_poly.specs.Polynomial.{value_at};
 ghost use Rattle.rs01_erase.specs.Completion.{ArePlaces, Many, Clash, IsRestored, completion};
