@@ -12,3 +12,6 @@ mod sectors;
 pub use answer::answer_layer;
 pub use held::Held;
 pub use restored::{layer_is_restored, restored_block};
+
+#[cfg(test)]
+mod tests;
