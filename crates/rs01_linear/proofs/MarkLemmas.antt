@@ -70,7 +70,7 @@ fate_at known y fates s are below =
     ∙ slice_get-get_or (first_fates known y) s LeftOut (omega (arith, below, length-map-range_with_len (first_fate known y) 0 known.sectors))
     ∙ ap Some (get_or-map-range_with_len (first_fate known y) 0 known.sectors s s LeftOut below (let e : 0 + s ≡ s = omega arith in e))
 
-left_out_is : (erased : Bool) → is_left_out (cond erased LeftOut Kept) ≡ erased
+pub left_out_is : (erased : Bool) → is_left_out (cond erased LeftOut Kept) ≡ erased
 left_out_is true = refl
 left_out_is false = refl
 
@@ -111,19 +111,23 @@ kept_part known y s sized below good =
     ap (λ b. take (width known s) (cond b (marker s) (block_in known y s))) good
     ∙ front_of_block y s (width known s) (present known y s good)
 
+-- one sector of the marked file
+pub marked_one : (known : Known) (y : List ℕ) (s : ℕ) → Sized known → s < known.sectors → part (marked known y) (place known s) (width known s) ≡ marked_sector known y s
+marked_one known y s sized below =
+    let next = place_more known s sized below in
+    let n : place known (s + 1) - place known s ≡ width known s = omega (arith, next) in
+    ap (λ k. part (marked known y) (place known s) k) (sym n)
+    ∙ marked_part known y s (s + 1) sized (omega arith) (omega (arith, below))
+    ∙ ap (λ k. flat_map (marked_sector known y) (range_with_len s k)) (let e : s + 1 - s ≡ 1 = omega arith in e)
+    ∙ append-nil (marked_sector known y s)
+
 -- a good sector is passed: as many first bytes more are marked ones
 pub pass_good : (known : Known) (y : List ℕ) (s : ℕ) (file : Option (List ℕ)) → Sized known → s < known.sectors → is_erased known y s ≡ false
     → file ≡ Some (mixed (place known s) (marked known y) y) → file ≡ Some (mixed (place known (s + 1)) (marked known y) y)
 pass_good known y s file sized below good is =
     let next = place_more known s sized below in
-    let n : place known (s + 1) - place known s ≡ width known s = omega (arith, next) in
-    let one : part (marked known y) (place known s) (width known s) ≡ marked_sector known y s =
-    ap (λ k. part (marked known y) (place known s) k) (sym n)
-    ∙ marked_part known y s (s + 1) sized (omega arith) (omega (arith, below))
-    ∙ ap (λ k. flat_map (marked_sector known y) (range_with_len s k)) (let e : s + 1 - s ≡ 1 = omega arith in e)
-    ∙ append-nil (marked_sector known y s) in
     let same : part (marked known y) (place known s) (width known s) ≡ part y (place known s) (width known s) =
-    one ∙ kept_part known y s sized below good ∙ ap (λ k. part y k (width known s)) (sym (place_of known s sized below)) in
+    marked_one known y s sized below ∙ kept_part known y s sized below good ∙ ap (λ k. part y k (width known s)) (sym (place_of known s sized below)) in
     is ∙ ap Some (same_mixed (marked known y) y (place known s) (width known s) same ∙ ap (λ k. mixed k (marked known y) y) (sym next))
 
 -- the markers of neighbouring sectors that aren't good

@@ -7,3 +7,4 @@ pub mod Course
 pub mod Left
 pub mod Judged
 pub mod Marking
+pub mod Standing

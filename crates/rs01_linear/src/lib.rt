@@ -7,6 +7,7 @@ mod judging;
 mod marking;
 mod medium;
 mod opening;
+mod reading;
 mod refusal;
 
 pub use asking::{Asked, ask_sector};

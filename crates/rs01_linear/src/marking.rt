@@ -20,7 +20,7 @@ use std::alloc::{AllocError, Global};
 const RUN: u32 = 64;
 
 // Whether a sector isn't good and wasn't asked for.
-fn is_left_out(fate: Fate) -> bool
+pub fn is_left_out(fate: Fate) -> bool
     ensures { result ≡ is_left_out fate }
 {
     match fate {

@@ -1,0 +1,28 @@
+-- How far a reading into an image file y has come.
+use Rattle.std.specs.Prelude.{ℕ, ◌≡◌, ◌++◌, ◌+◌, IsTrue, List, Option, Some, Result, Ok, Err, drop}
+use Rattle.rs01_outside.specs.DeskState.{DeskState}
+use Rattle.rs01_outside.specs.DriveView.{DriveView}
+use Rattle.rs01_rack.specs.Rack.{AllTell, RackState, views_of}
+use Rattle.rs01_ecchead.specs.Erased.{Known}
+use Rattle.rs01_linear.specs.Course.{Course, Manner, read_to}
+use Rattle.rs01_linear.specs.Left.{first_fates, image_left, marked, mixed}
+use Rattle.rs01_linear.specs.Marking.{IsMixed, place}
+use Rattle.rs01_linear.specs.declared.fate.Fate.{Fate}
+use Rattle.rs01_linear.specs.declared.reading.Reading.{Reading}
+
+-- drives, what is kept and the image file, once the sectors below s were passed
+pub record Stands (known : Known) (manner : Manner) (y : List ℕ) (views : List DriveView) (s : ℕ) (rack : RackState) (reading : Reading) (file : Option (List ℕ)) : Type 0 where
+  pub views_are : views_of rack ≡ (read_to known manner y views s).views
+  pub next_is : reading.next ≡ (read_to known manner y views s).next
+  pub fates_are : reading.fates.items ≡ (read_to known manner y views s).fates ++ drop s (first_fates known y)
+  pub file_is : file ≡ Some (mixed (place known s) (image_left known manner y views) (marked known y))
+
+-- a write failed while sector s was passed: the drives were asked so far, and the file is on the way
+pub record Halts (known : Known) (manner : Manner) (y : List ℕ) (views : List DriveView) (s : ℕ) (rack : RackState) (file : Option (List ℕ)) : Type 0 where
+  pub views_are : views_of rack ≡ (read_to known manner y views (s + 1)).views
+  pub file_is : IsMixed (image_left known manner y views) (marked known y) file
+
+-- how passing sector s ends
+abbrev pub Passes : {T E : Type 0} → Known → Manner → List ℕ → List DriveView → ℕ → RackState → Reading → Option (List ℕ) → Result T E → Type 0
+Passes known manner y views s rack reading file (Ok value) = Stands known manner y views (s + 1) rack reading file
+Passes known manner y views s rack reading file (Err why) = Halts known manner y views s rack file
