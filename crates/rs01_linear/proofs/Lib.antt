@@ -7,4 +7,5 @@ pub mod LastingLemmas
 mod MarkLemmas
 mod MediumLemmas
 mod MixedLemmas
+mod RunLemmas
 mod StandLemmas

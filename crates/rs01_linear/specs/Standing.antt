@@ -1,5 +1,5 @@
 -- How far a reading into an image file y has come.
-use Rattle.std.specs.Prelude.{ℕ, ◌≡◌, ◌++◌, ◌+◌, IsTrue, List, Option, Some, Result, Ok, Err, drop}
+use Rattle.std.specs.Prelude.{ℕ, ◌≡◌, ◌≤◌, ◌++◌, ◌+◌, List, Option, Some, Result, Ok, Err, drop}
 use Rattle.rs01_outside.specs.DeskState.{DeskState}
 use Rattle.rs01_outside.specs.DriveView.{DriveView}
 use Rattle.rs01_rack.specs.Rack.{AllTell, RackState, views_of}
@@ -26,3 +26,15 @@ pub record Halts (known : Known) (manner : Manner) (y : List ℕ) (views : List 
 abbrev pub Passes : {T E : Type 0} → Known → Manner → List ℕ → List DriveView → ℕ → RackState → Reading → Option (List ℕ) → Result T E → Type 0
 Passes known manner y views s rack reading file (Ok value) = Stands known manner y views (s + 1) rack reading file
 Passes known manner y views s rack reading file (Err why) = Halts known manner y views s rack file
+
+-- the drives were asked for the sectors below some place at most, and the file is on the way
+pub record Halted (known : Known) (manner : Manner) (y : List ℕ) (views : List DriveView) (rack : RackState) (file : Option (List ℕ)) : Type 0 where
+  pub passed : ℕ
+  pub inside : passed ≤ known.sectors
+  pub views_are : views_of rack ≡ (read_to known manner y views passed).views
+  pub file_is : IsMixed (image_left known manner y views) (marked known y) file
+
+-- how passing all sectors ends
+abbrev pub PassesAll : {T E : Type 0} → Known → Manner → List ℕ → List DriveView → RackState → Reading → Option (List ℕ) → Result T E → Type 0
+PassesAll known manner y views rack reading file (Ok value) = Stands known manner y views known.sectors rack reading file
+PassesAll known manner y views rack reading file (Err why) = Halted known manner y views rack file

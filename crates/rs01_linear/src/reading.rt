@@ -24,7 +24,7 @@ pub struct Reading {
     pub fates: Vec<Fate>,
 }
 
-ghost use Rattle.rs01_linear.specs.Standing.{Passes, Stands};
+ghost use Rattle.rs01_linear.specs.Standing.{Passes, PassesAll, Stands};
 
 // What becomes of a sector that was asked for.
 fn fate_of(asked: Asked) -> Fate
@@ -92,4 +92,36 @@ fn pass_sector<D: Desk>(
             Ok(())
         }
     }
+}
+
+// Passes all sectors in rising order.
+pub fn read_sectors<D: Desk>(
+    rack: &mut Rack,
+    desk: &mut D,
+    name: &str,
+    medium: &Medium,
+    jump: u32,
+    tries: u32,
+    reading: &mut Reading,
+) -> Result<(), ReadRefusal>
+    requires all { length reading.old.fates.items ≡ medium.now.extent.sectors }
+    requires jump { jump ≤ 1048576 }
+    requires tries { 1 ≤ tries }
+    ensures all { length reading.new.fates.items ≡ medium.now.extent.sectors }
+    ensures works { WorksOn name.now (D.state desk.old) (D.state desk.new) false
+        (is_write_fault result) }
+    ensures lasts { RackLasts (seen_by ⟦<dyn Drive as Drive>⟧ rack.old)
+        (seen_by ⟦<dyn Drive as Drive>⟧ rack.new) }
+    ensures told { (y : List ℕ) (views : List DriveView) → IsTrue (D.state desk.old).tells
+        → AllTell (seen_by ⟦<dyn Drive as Drive>⟧ rack.new)
+        → let manner : Manner = record { jump = jump; tries = tries } in
+        Stands (known_of medium.now) manner y views 0 (seen_by ⟦<dyn Drive as Drive>⟧ rack.old)
+        reading.old ((D.state desk.old).files name.now)
+        → PassesAll (known_of medium.now) manner y views (seen_by ⟦<dyn Drive as Drive>⟧ rack.new)
+        reading.new ((D.state desk.new).files name.now) result }
+{
+    for sector in 0..medium.extent.sectors {
+        pass_sector(rack, desk, name, medium, jump, tries, sector, reading)?;
+    }
+    Ok(())
 }
