@@ -1,5 +1,6 @@
 use Rattle.std.proofs.Common.{rules, ◌≡◌, ◌∙◌, ◌+◌, ℕ, List, Bool, refl, sym, get_or, false, subst}
 use Rattle.std.specs.Prelude.{◌&&◌, Option, Some, None, Result, Ok, Err}
+use Rattle.std.specs.Option.{option_copied}
 use Rattle.rs01_layers.specs.Layout.{sector_at}
 use Rattle.rs01_outside.specs.DeskState.{DeskState}
 use Rattle.rs01_outside.specs.declared.Failed.{Failed}
@@ -47,12 +48,12 @@ returns-in-Some g c =
     record {
       changes = c.put_sector.ensures.changes;
       put = λ recorded same.
-          put_here held recorded c.args.layer c.args.place c.in-Some.sector _
+          let here : restored_at c.args.answer.now c.args.place ≡ mended_block (said held recorded) (answer_to held recorded) c.in-Some.sector =
+          mended_here (said held recorded) (answer_to held recorded) c.args.layer c.args.place c.in-Some.sector c.args.answer.now (is_shape held.ecc) c.requires.place.layer e same in
+          put_here held recorded c.args.layer c.args.place c.in-Some.sector (option_copied c.restored_block.result)
           (get_or (flags_at (fields_in held) (is_gone_in held) c.args.layer) c.args.place false && is_restored c.args.answer.now) c.args.name.now
           (g.D.Desk.state c.args.desk.now) (g.D.Desk.state c.put_sector.new.desk) c.put_sector.result c.requires.place.layer e
-          (c.restored_block.ensures
-          ∙ mended_here (said held recorded) (answer_to held recorded) c.args.layer c.args.place c.in-Some.sector c.args.answer.now (is_shape held.ecc) c.requires.place.layer e same)
-          (subst (IsBlockWhere _) (sym c.restored_block.ensures) (c.requires.blocks c.args.place)) c.put_sector.ensures;
+          (c.restored_block.ensures ∙ here) (subst (IsBlockWhere _) (sym c.restored_block.ensures) (c.requires.blocks c.args.place)) c.put_sector.ensures;
     }
 
 pub returns-in-None : goal.returns-in-None
