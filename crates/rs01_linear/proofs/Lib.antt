@@ -4,8 +4,11 @@ mod CourseLemmas
 mod JudgeLemmas
 mod LaidLemmas
 pub mod LastingLemmas
+mod LinearLemmas
 mod MarkLemmas
 mod MediumLemmas
 mod MixedLemmas
+mod PrepareLemmas
 mod RunLemmas
 mod StandLemmas
+mod TellLemmas

@@ -8,3 +8,6 @@ pub mod Left
 pub mod Judged
 pub mod Marking
 pub mod Standing
+pub mod Report
+pub mod Outcome
+pub mod Linear

@@ -64,3 +64,12 @@ IsOfOpening (DriveSize n) = ⊥
 IsOfOpening ReadFault = Unit {0}
 IsOfOpening WriteFault = ⊥
 IsOfOpening OutOfMemory = Unit {0}
+
+-- a refusal that comes from work on files or from want of memory, and not from the medium
+abbrev pub IsOfWork : ReadRefusal → Type 0
+IsOfWork (Ecc why) = ⊥
+IsOfWork (Rack why) = ⊥
+IsOfWork (DriveSize n) = ⊥
+IsOfWork ReadFault = Unit {0}
+IsOfWork WriteFault = Unit {0}
+IsOfWork OutOfMemory = Unit {0}

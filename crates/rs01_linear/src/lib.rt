@@ -4,11 +4,14 @@
 mod asking;
 mod fate;
 mod judging;
+mod linear;
 mod marking;
 mod medium;
 mod opening;
+mod prepared;
 mod reading;
 mod refusal;
+mod telling;
 
 pub use asking::{Asked, ask_sector};
 pub use fate::Fate;

@@ -1,11 +1,11 @@
 //! Passing the sectors of a medium in rising order.
-ghost use Rattle.std.specs.Prelude.{◌≡◌, ◌<◌, ◌≤◌, IsTrue, List, false, length, ℕ};
+ghost use Rattle.std.specs.Prelude.{◌≡◌, ◌<◌, ◌≤◌, IfErr, IsTrue, List, false, length, ℕ};
 ghost use Rattle.rs01_outside.specs.DeskState.{WorksOn};
 ghost use Rattle.rs01_outside.specs.DriveView.{DriveView};
 ghost use Rattle.rs01_rack.specs.Rack.{AllTell};
 ghost use Rattle.rs01_linear.specs.Racks.{seen_by};
 ghost use Rattle.rs01_linear.specs.Lasting.{RackLasts};
-ghost use Rattle.rs01_linear.specs.Refusal.{is_write_fault};
+ghost use Rattle.rs01_linear.specs.Refusal.{IsOfWork, is_read_fault, is_write_fault};
 ghost use Rattle.rs01_linear.specs.Course.{Manner, fate_of};
 ghost use Rattle.rs01_linear.specs.Medium.{known_of};
 
@@ -56,6 +56,8 @@ fn pass_sector<D: Desk>(
     ensures all { length reading.new.fates.items ≡ medium.now.extent.sectors }
     ensures works { WorksOn name.now (D.state desk.old) (D.state desk.new) false
         (is_write_fault result) }
+    ensures no_read { is_read_fault result ≡ false }
+    ensures causes { IfErr result IsOfWork }
     ensures lasts { RackLasts (seen_by ⟦<dyn Drive as Drive>⟧ rack.old)
         (seen_by ⟦<dyn Drive as Drive>⟧ rack.new) }
     ensures told { (y : List ℕ) (views : List DriveView) → IsTrue (D.state desk.old).tells
@@ -110,6 +112,8 @@ pub fn read_sectors<D: Desk>(
     ensures all { length reading.new.fates.items ≡ medium.now.extent.sectors }
     ensures works { WorksOn name.now (D.state desk.old) (D.state desk.new) false
         (is_write_fault result) }
+    ensures no_read { is_read_fault result ≡ false }
+    ensures causes { IfErr result IsOfWork }
     ensures lasts { RackLasts (seen_by ⟦<dyn Drive as Drive>⟧ rack.old)
         (seen_by ⟦<dyn Drive as Drive>⟧ rack.new) }
     ensures told { (y : List ℕ) (views : List DriveView) → IsTrue (D.state desk.old).tells

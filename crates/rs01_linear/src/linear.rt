@@ -1,0 +1,67 @@
+//! Reading a medium into an image, in rising order.
+ghost use Rattle.std.specs.Prelude.{◌≡◌, ◌≤◌, ◌-◌, ◌^◌, IfErr, IsTrue, List, Option, length, min, ℕ};
+ghost use Rattle.rs01_outside.specs.DeskState.{WorksOn};
+ghost use Rattle.rs01_rack.specs.Rack.{AllTell};
+ghost use Rattle.rs01_linear.specs.Course.{Manner};
+ghost use Rattle.rs01_linear.specs.Lasting.{RackLasts};
+ghost use Rattle.rs01_linear.specs.Linear.{IsPrepared, ReadsPrepared};
+ghost use Rattle.rs01_linear.specs.Medium.{known_of};
+ghost use Rattle.rs01_linear.specs.Racks.{seen_by};
+ghost use Rattle.rs01_linear.specs.Refusal.{IsOfWork, is_read_fault, is_write_fault};
+
+use crate::medium::Medium;
+use crate::prepared::Prepared;
+use crate::reading::{Reading, read_sectors};
+use crate::refusal::ReadRefusal;
+use crate::telling::report;
+use rs01_outside::{Desk, Drive};
+use rs01_rack::Rack;
+use rs01_report::ReadReport;
+use std::alloc::Global;
+
+// How many asks were counted since there were so many, up to the last value of a u64.
+fn asked_since(before: u128, rack: &Rack) -> u64
+    ensures { let now = (seen_by ⟦<dyn Drive as Drive>⟧ rack.now).asks in
+        result ≡ min (now - before) (2 ^ 64 - 1) }
+{
+    let more = rack.asks().saturating_sub(before);
+    more.min(u128::from(u64::MAX)) as u64
+}
+
+// Reads a medium into an image file that is ready.
+fn read_prepared<D: Desk>(
+    alloc: Global,
+    rack: &mut Rack,
+    desk: &mut D,
+    name: &str,
+    medium: &Medium,
+    jump: u32,
+    tries: u32,
+    prepared: Prepared,
+) -> Result<ReadReport, ReadRefusal>
+    requires all { length prepared.fates.items ≡ medium.now.extent.sectors }
+    requires jump { jump ≤ 1048576 }
+    requires tries { 1 ≤ tries }
+    ensures works { WorksOn name.now (D.state desk.old) (D.state desk.new)
+        (is_read_fault result) (is_write_fault result) }
+    ensures causes { IfErr result IsOfWork }
+    ensures lasts { RackLasts (seen_by ⟦<dyn Drive as Drive>⟧ rack.old)
+        (seen_by ⟦<dyn Drive as Drive>⟧ rack.new) }
+    ensures told { (before : Option (List ℕ)) → IsTrue (D.state desk.old).tells
+        → AllTell (seen_by ⟦<dyn Drive as Drive>⟧ rack.new)
+        → let manner : Manner = record { jump = jump; tries = tries } in
+        IsPrepared (known_of medium.now) before ((D.state desk.old).files name.now) prepared
+        → ReadsPrepared (known_of medium.now) manner before
+        (seen_by ⟦<dyn Drive as Drive>⟧ rack.old) (seen_by ⟦<dyn Drive as Drive>⟧ rack.new)
+        ((D.state desk.new).files name.now) result }
+{
+    let asks = rack.asks();
+    let mut reading = Reading {
+        next: 0,
+        fates: prepared.fates,
+    };
+    read_sectors(rack, desk, name, medium, jump, tries, &mut reading)?;
+    let asked = asked_since(asks, rack);
+    let surplus = prepared.size.saturating_sub(medium.extent.image_len());
+    Ok(report(alloc, &reading.fates, asked, surplus)?)
+}

@@ -1,0 +1,61 @@
+//! Getting an image file ready, before a sector is asked for.
+ghost use Rattle.std.specs.Prelude.{◌≡◌, IfErr, IfOk, IsTrue, length};
+ghost use Rattle.rs01_outside.specs.DeskState.{WorksOn};
+ghost use Rattle.rs01_linear.specs.Medium.{known_of};
+ghost use Rattle.rs01_linear.specs.Refusal.{IsOfWork, is_read_fault, is_write_fault};
+
+use crate::fate::Fate;
+use crate::judging::judge_image;
+use crate::marking::put_markers;
+use crate::medium::Medium;
+use crate::refusal::ReadRefusal;
+use rs01_outside::{Desk, Failed};
+use std::alloc::Global;
+
+// How many bytes the image file had, and what is known of each sector.
+#[derive(Drop)]
+pub struct Prepared {
+    pub size: u64,
+    pub fates: Vec<Fate>,
+}
+
+ghost use Rattle.rs01_linear.specs.Linear.{Prepares, Starts};
+
+// How many bytes the image file has. Where it isn't there it is made.
+fn start_image<D: Desk>(desk: &mut D, name: &str) -> Result<u64, ReadRefusal>
+    ensures works { WorksOn name.now (D.state desk.old) (D.state desk.new)
+        (is_read_fault result) (is_write_fault result) }
+    ensures causes { IfErr result IsOfWork }
+    ensures started { IsTrue (D.state desk.old).tells
+        → Starts ((D.state desk.old).files name.now) ((D.state desk.new).files name.now) result }
+{
+    match desk.size(name) {
+        Ok(Some(size)) => Ok(size),
+        Ok(None) => match desk.make(name) {
+            Ok(()) => Ok(0),
+            Err(Failed) => Err(ReadRefusal::WriteFault),
+        },
+        Err(Failed) => Err(ReadRefusal::ReadFault),
+    }
+}
+
+// Gets the image file ready: judges its sectors, and marks those that aren't good.
+pub fn prepare<D: Desk>(
+    alloc: Global,
+    desk: &mut D,
+    name: &str,
+    medium: &Medium,
+) -> Result<Prepared, ReadRefusal>
+    ensures works { WorksOn name.now (D.state desk.old) (D.state desk.new)
+        (is_read_fault result) (is_write_fault result) }
+    ensures causes { IfErr result IsOfWork }
+    ensures all { IfOk result (λ prepared. length prepared.fates.items
+        ≡ medium.now.extent.sectors) }
+    ensures told { IsTrue (D.state desk.old).tells → Prepares (known_of medium.now)
+        ((D.state desk.old).files name.now) ((D.state desk.new).files name.now) result }
+{
+    let size = start_image(desk, name)?;
+    let fates = judge_image(alloc, desk, name, size, medium)?;
+    put_markers(alloc, desk, name, &medium.extent, &fates)?;
+    Ok(Prepared { size, fates })
+}
