@@ -1,6 +1,6 @@
 -- What each sector that is passed adds to a reading.
-use Rattle.std.proofs.Common.{◌≡◌, ℕ, zero, suc, ◌+◌, ◌-◌, ◌*◌, ◌<◌, ◌≤◌, ◌∙◌, ap, arith, sym, refl, subst, Bool, true, false, cond, List, [], ◌∷◌, ◌++◌, length, take, drop, append_assoc, append-nil}
-use Rattle.std.specs.Prelude.{Option, Some, None, is_some, nat_lt}
+use Rattle.std.proofs.Common.{◌≡◌, ℕ, zero, suc, ◌+◌, ◌-◌, ◌<◌, ◌≤◌, ◌∙◌, ap, arith, sym, refl, subst, Bool, true, false, cond, List, [], ◌∷◌, ◌++◌, length, take, drop, append_assoc, append-nil}
+use Rattle.std.specs.Prelude.{Some, None, nat_lt}
 use Rattle.std.specs.Option.{option_map, unwrap_or}
 use Rattle.std.proofs.lemmas.List.{length-append, length-take-le, length-take}
 use Rattle.rs01_layers.proofs.BlockLemmas.{length-block}
@@ -88,10 +88,11 @@ grows known manner y views s zero sized =
 grows known manner y views s (suc more) sized =
     let before = grows known manner y views s more sized in
     let adds = next_adds known manner y views (s + more) sized in
-    let piece = take (width known (s + more)) adds.block in
-    (before.0 ++ piece,
-    ap (λ n. (read_to known manner y views n).image) (let e : s + suc more ≡ suc (s + more) = omega arith in e)
-    ∙ adds.image_is ∙ ap (λ xs. xs ++ piece) before.1 ∙ append_assoc (read_to known manner y views s).image before.0 piece)
+    let piece = take (width known (s + more)) adds.block in (
+      before.0 ++ piece,
+      ap (λ n. (read_to known manner y views n).image) (let e : s + suc more ≡ suc (s + more) = omega arith in e)
+          ∙ adds.image_is ∙ ap (λ xs. xs ++ piece) before.1 ∙ append_assoc (read_to known manner y views s).image before.0 piece,
+    )
 
 -- what is left has these bytes at the sector's place
 pub left_part : (known : Known) (manner : Manner) (y : List ℕ) (views : List DriveView) (s : ℕ) (piece : List ℕ) → Sized known → s < known.sectors
@@ -117,8 +118,12 @@ left_part known manner y views s piece sized below is wide =
 pub left_long : (known : Known) (manner : Manner) (y : List ℕ) (views : List DriveView) → Sized known → image_len known ≤ length (image_left known manner y views)
 unfolding image_left
 left_long known manner y views sized =
-    omega (arith, length-passed known manner y views known.sectors sized (omega arith), place_end known sized,
-    length-append (read_to known manner y views known.sectors).image (drop (image_len known) y))
+    omega (
+      arith,
+      length-passed known manner y views known.sectors sized (omega arith),
+      place_end known sized,
+      length-append (read_to known manner y views known.sectors).image (drop (image_len known) y),
+    )
 
 -- there is a fate for each sector that was passed
 pub length-fates : (known : Known) (manner : Manner) (y : List ℕ) (views : List DriveView) (s : ℕ) → Sized known → length (read_to known manner y views s).fates ≡ s

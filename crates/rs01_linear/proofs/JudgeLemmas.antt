@@ -1,15 +1,14 @@
 -- Judging the sectors of an image file in rising order.
-use Rattle.std.proofs.Common.{◌≡◌, ℕ, ◌+◌, ◌<◌, ◌≤◌, ◌*◌, ◌∙◌, ap, arith, sym, refl, Bool, true, false, cond, List, [], ◌∷◌, ◌++◌, length, map, leb, ltb, ⊎_elim, add-one}
-use Rattle.std.specs.Prelude.{not, ◌||◌, Option, IsTrue}
+use Rattle.std.proofs.Common.{◌≡◌, ℕ, ◌+◌, ◌*◌, ◌∙◌, ap, arith, sym, refl, Bool, true, false, cond, List, [], ◌∷◌, ◌++◌, length, map, leb, ltb, ⊎_elim, add-one}
+use Rattle.std.specs.Prelude.{not, ◌||◌, Option}
 use Rattle.std.specs.List.{range_with_len}
 use Rattle.std.proofs.lemmas.Bool.{cases_lt, lt-ltb, le-ltb, lt-leb, le-leb}
 use Rattle.std.proofs.lemmas.List.{map-append}
 use Rattle.rs01_layers.specs.Sectors.{length_of}
 use Rattle.rs01_lists.proofs.Ranges.{range_with_len_more}
 use Rattle.rs01_ecchead.specs.Condition.{condition_of, judged}
-use Rattle.rs01_ecchead.specs.Erased.{Known, is_altered, is_erased, is_missing}
+use Rattle.rs01_ecchead.specs.Erased.{Known, is_altered, is_missing}
 use Rattle.rs01_ecchead.specs.Shown.{IsSector, Shown, shown_in}
-use Rattle.rs01_ecchead.specs.declared.condition.Condition.{Condition}
 use Rattle.rs01_ecchead.specs.declared.condition.Condition.TheVariants.{Altered, Missing, Sound}
 use Rattle.rs01_ecchead.proofs.ConditionLemmas.{judged_is}
 use Rattle.rs01_ecchead.proofs.ErasedLemmas.{erased_is_missing_or_altered}

@@ -1,5 +1,5 @@
 -- Files that are the bytes of all sectors, and what stands behind them.
-use Rattle.std.proofs.Common.{◌≡◌, ℕ, zero, suc, ◌+◌, ◌-◌, ◌*◌, ◌<◌, ◌≤◌, ◌∙◌, ap, arith, sym, refl, List, [], ◌++◌, length, drop, min, append_assoc, ⊎_elim, eqb}
+use Rattle.std.proofs.Common.{◌≡◌, ℕ, zero, suc, ◌+◌, ◌-◌, ◌*◌, ◌<◌, ◌≤◌, ◌∙◌, ap, arith, List, ◌++◌, length, drop, min, append_assoc, ⊎_elim, eqb}
 use Rattle.std.specs.List.{flat_map, range_with_len}
 use Rattle.std.proofs.lemmas.Bool.{cases_eq, eq-eqb, ne_eqb, cond-true, cond-false}
 use Rattle.std.proofs.lemmas.List.{length-append}
@@ -82,9 +82,9 @@ split known f y at past order inside =
     ∙ ap (flat_map f) (range_with_len-append 0 at (all - at) ∙ ap (λ k. range_with_len 0 at ++ range_with_len k (all - at)) zero_at)
     ∙ flat_map-append f (range_with_len 0 at) (range_with_len at (all - at))
     ∙ ap (λ xs. flat_map f (range_with_len 0 at) ++ xs)
-        (ap (λ n. flat_map f (range_with_len at n)) two
-        ∙ ap (flat_map f) (range_with_len-append at (past - at) (all - past) ∙ ap (λ k. range_with_len at (past - at) ++ range_with_len k (all - past)) front)
-        ∙ flat_map-append f (range_with_len at (past - at)) (range_with_len past (all - past))) in
+    (ap (λ n. flat_map f (range_with_len at n)) two
+    ∙ ap (flat_map f) (range_with_len-append at (past - at) (all - past) ∙ ap (λ k. range_with_len at (past - at) ++ range_with_len k (all - past)) front)
+    ∙ flat_map-append f (range_with_len at (past - at)) (range_with_len past (all - past))) in
     ap (λ xs. xs ++ rest) pieces
     ∙ append_assoc (flat_map f (range_with_len 0 at)) (flat_map f (range_with_len at (past - at)) ++ flat_map f (range_with_len past (all - past))) rest
     ∙ ap (λ xs. flat_map f (range_with_len 0 at) ++ xs) (append_assoc (flat_map f (range_with_len at (past - at))) (flat_map f (range_with_len past (all - past))) rest)

@@ -1,6 +1,7 @@
 mod AskLemmas
 mod CountLemmas
 mod CourseLemmas
+mod EndLemmas
 mod JudgeLemmas
 mod LaidLemmas
 pub mod LastingLemmas

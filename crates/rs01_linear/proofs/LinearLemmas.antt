@@ -1,6 +1,6 @@
 -- From an image file that is ready to what is left at the end.
-use Rattle.std.proofs.Common.{◌≡◌, ℕ, ◌+◌, ◌-◌, ◌*◌, ◌<◌, ◌≤◌, ◌^◌, ◌∙◌, ap, arith, sym, refl, List, [], ◌++◌, length, take, drop, min, append-nil, inl, inr, ◌⊎◌}
-use Rattle.std.specs.Prelude.{Option, Some, Result, Ok, Err, IsSomeAnd}
+use Rattle.std.proofs.Common.{◌≡◌, ℕ, ◌-◌, ◌∙◌, ap, arith, sym, refl, List, [], ◌++◌, length, take, drop, append-nil, inr}
+use Rattle.std.specs.Prelude.{Option, Some, Result, Err, IsSomeAnd}
 use Rattle.std.specs.List.{flat_map, range_with_len}
 use Rattle.std.specs.Option.{unwrap_or}
 use Rattle.std.proofs.Math.Seq.{take-append_seam, drop-append_seam}
@@ -10,11 +10,11 @@ use Rattle.rs01_outside.specs.DriveView.{DriveView}
 use Rattle.rs01_rack.specs.Rack.{RackState, views_of}
 use Rattle.rs01_ecchead.specs.Erased.{Known, image_len}
 use Rattle.rs01_report.specs.declared.reports.ReadReport.{ReadReport}
-use Rattle.rs01_linear.specs.Course.{Course, Manner, read_to, whole_reading}
+use Rattle.rs01_linear.specs.Course.{Manner, read_to, whole_reading}
 use Rattle.rs01_linear.specs.Left.{IsOnTheWay, first_fate, first_fates, image_left, marked, marked_sector, mixed}
 use Rattle.rs01_linear.specs.Linear.{IsPrepared, ReadsPrepared}
 use Rattle.rs01_linear.specs.Marking.{IsMixed, place}
-use Rattle.rs01_linear.specs.Outcome.{IsLeftAt, IsReadInto, asked_since}
+use Rattle.rs01_linear.specs.Outcome.{IsReadInto, asked_since}
 use Rattle.rs01_linear.specs.Report.{report_of}
 use Rattle.rs01_linear.specs.Standing.{Halted, Stands}
 use Rattle.rs01_linear.specs.declared.fate.Fate.{Fate}
@@ -50,7 +50,7 @@ left_whole known manner y views sized =
     let rest = drop (image_len known) y in
     ap (λ k. mixed k (front ++ rest) (flat_map (marked_sector known y) (range_with_len 0 known.sectors) ++ rest)) (place_end known sized)
     ∙ mixed_seam front rest (flat_map (marked_sector known y) (range_with_len 0 known.sectors) ++ rest) (image_len known)
-        (length-passed known manner y views known.sectors sized (omega arith) ∙ place_end known sized)
+    (length-passed known manner y views known.sectors sized (omega arith) ∙ place_end known sized)
     ∙ ap (λ xs. front ++ xs) (drop_seam (flat_map (marked_sector known y) (range_with_len 0 known.sectors)) rest (image_len known) (front_long known y sized))
 
 -- where nothing was asked for yet
@@ -75,7 +75,7 @@ fates_whole : (known : Known) (manner : Manner) (y : List ℕ) (views : List Dri
     → fates ≡ (read_to known manner y views known.sectors).fates ++ drop known.sectors (first_fates known y) → fates ≡ (whole_reading known manner y views).fates
 fates_whole known manner y views fates are =
     are ∙ ap (λ xs. (read_to known manner y views known.sectors).fates ++ xs)
-        (drop_all known.sectors (first_fates known y) (omega (arith, length-map-range_with_len (first_fate known y) 0 known.sectors)))
+    (drop_all known.sectors (first_fates known y) (omega (arith, length-map-range_with_len (first_fate known y) 0 known.sectors)))
     ∙ append-nil (read_to known manner y views known.sectors).fates
 
 pub read_whole : (known : Known) (manner : Manner) (before file : Option (List ℕ)) (old new : RackState) (reading : Reading) (prepared : Prepared) (told : ReadReport) (asked surplus : ℕ) → Sized known

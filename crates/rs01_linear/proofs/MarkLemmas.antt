@@ -1,6 +1,6 @@
 -- Marking the sectors of a file that aren't good.
-use Rattle.std.proofs.Common.{◌≡◌, ℕ, zero, suc, ◌+◌, ◌-◌, ◌*◌, ◌<◌, ◌≤◌, ◌∙◌, ap, arith, sym, refl, subst, Bool, true, false, cond, List, [], ◌∷◌, ◌++◌, length, map, take, drop, min, ◌⊎◌, ⊎_elim, ltb, append-nil}
-use Rattle.std.specs.Prelude.{IsTrue, Option, Some, None, Result, Ok, Err, not, ◌||◌, slice_get}
+use Rattle.std.proofs.Common.{◌≡◌, ℕ, zero, suc, ◌+◌, ◌-◌, ◌*◌, ◌<◌, ◌≤◌, ◌∙◌, ap, arith, sym, refl, Bool, true, false, cond, List, [], ◌∷◌, ◌++◌, length, take, drop, ⊎_elim, append-nil}
+use Rattle.std.specs.Prelude.{IsTrue, Option, Some, not, ◌||◌, slice_get}
 use Rattle.std.specs.List.{flat_map, range_with_len}
 use Rattle.std.specs.Option.{option_map}
 use Rattle.std.proofs.lemmas.Bool.{cases_lt, lt-ltb}
@@ -21,11 +21,11 @@ use Rattle.rs01_ecchead.specs.Erased.{Known, block_in, image_len, is_absent, is_
 use Rattle.rs01_layers.specs.declared.extent.Extent.{Extent}
 use Rattle.rs01_linear.specs.Asking.{known_with}
 use Rattle.rs01_linear.specs.Left.{first_fate, first_fates, marked, marked_sector, mixed}
-use Rattle.rs01_linear.specs.Marking.{IsMixed, is_left_out, place}
+use Rattle.rs01_linear.specs.Marking.{is_left_out, place}
 use Rattle.rs01_linear.specs.declared.fate.Fate.{Fate}
 use Rattle.rs01_linear.specs.declared.fate.Fate.TheVariants.{Kept, LeftOut}
 use Rattle.rs01_linear.proofs.LaidLemmas.{Fills, Sized, laid, laid_long, laid_part, place_more, place_of, place_order, place_within, width, width_le}
-use Rattle.rs01_linear.proofs.MixedLemmas.{put_mixed, put_some, same_mixed}
+use Rattle.rs01_linear.proofs.MixedLemmas.{same_mixed}
 
 -- the block that a sector has before anything is asked for
 length-choice : (known : Known) (y : List ℕ) (s : ℕ) (erased : Bool) → Sized known → length (cond erased (marker s) (block_in known y s)) ≡ 2048

@@ -1,8 +1,8 @@
 -- Files whose first bytes are those of one list, and the others those of another.
-use Rattle.std.proofs.Common.{◌≡◌, ℕ, zero, suc, ◌+◌, ◌-◌, ◌*◌, ◌<◌, ◌≤◌, ◌∙◌, ap, arith, sym, refl, List, [], ◌∷◌, ◌++◌, length, take, drop, min, append_assoc, append-nil, ⊎_elim, inl, inr}
+use Rattle.std.proofs.Common.{◌≡◌, ℕ, ◌+◌, ◌-◌, ◌<◌, ◌≤◌, ◌∙◌, ap, arith, sym, List, [], ◌++◌, length, take, drop, min, append_assoc, append-nil, ⊎_elim, inl, inr}
 use Rattle.std.specs.Prelude.{Some, Err}
 use Rattle.std.specs.Option.{unwrap_or}
-use Rattle.std.proofs.Math.Seq.{take-add, take-append_seam, take-append-add, drop-append_seam, drop-append-add}
+use Rattle.std.proofs.Math.Seq.{take-add, take-append_seam, drop-append-add}
 use Rattle.std.proofs.lemmas.Bool.{cases_lt}
 use Rattle.std.proofs.lemmas.List.{drop-drop, drop-append-le, drop_all, length-take-le, length-take, length-drop, length-append, take-take, take-append-drop, take_all}
 use Rattle.rs01_lists.specs.Bytes.{padded, part, zeros}
@@ -83,7 +83,10 @@ pub extend_failed : {E : Type 0} (old new : Files) (name one other bytes : List 
 extend_failed old new name one other bytes m n offset e fits here are is written =
     elim written [
       | inl same ↦ (m, ap (λ (f : Files). f name) same ∙ is)
-      | inr some ↦ (m + min some.0 n, some.1.there
-        ∙ (λ i. Some (put_at (unwrap_or (is i) []) (here i) (take some.0 (are i))))
-        ∙ ap Some (put_some one other m n some.0 fits))
+      | inr some ↦ (
+        m + min some.0 n,
+        some.1.there
+            ∙ (λ i. Some (put_at (unwrap_or (is i) []) (here i) (take some.0 (are i))))
+            ∙ ap Some (put_some one other m n some.0 fits),
+      )
     ]

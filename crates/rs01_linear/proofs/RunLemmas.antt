@@ -1,6 +1,6 @@
 -- How far a reading has come after some sectors.
-use Rattle.std.proofs.Common.{◌≡◌, ℕ, ◌+◌, ◌≤◌, ◌∙◌, arith, sym, refl, subst, false, List, length, Bool}
-use Rattle.std.specs.Prelude.{IsTrue, Option, Result, Ok, Err}
+use Rattle.std.proofs.Common.{◌≡◌, ℕ, ◌+◌, ◌≤◌, sym, subst, false, List, length}
+use Rattle.std.specs.Prelude.{IsTrue, Option, Result, Err}
 use Rattle.rs01_outside.specs.DeskState.{DeskState, WorksOn}
 use Rattle.rs01_outside.specs.DriveView.{DriveView}
 use Rattle.rs01_outside.proofs.States.{works-then}
@@ -25,7 +25,7 @@ pub so_far_more : (known : Known) (manner : Manner) (name : List ℕ) (s : ℕ) 
     → SoFar known manner name s desk desk' rack rack' reading reading'
     → length reading''.fates.items ≡ known.sectors → WorksOn name desk' desk'' false false → RackLasts rack' rack''
     → ((y : List ℕ) (views : List DriveView) → IsTrue desk'.tells → AllTell rack'' → Stands known manner y views s rack' reading' (desk'.files name)
-        → Stands known manner y views (s + 1) rack'' reading'' (desk''.files name))
+    → Stands known manner y views (s + 1) rack'' reading'' (desk''.files name))
     → SoFar known manner name (s + 1) desk desk'' rack rack'' reading reading''
 so_far_more known manner name s desk desk' desk'' rack rack' rack'' reading reading' reading'' so all works lasts step = record {
   all = all;
@@ -38,7 +38,7 @@ so_far_more known manner name s desk desk' desk'' rack rack' rack'' reading read
 pub so_far_halted : (known : Known) (manner : Manner) (name : List ℕ) (s : ℕ) (desk desk' desk'' : DeskState) (rack rack' rack'' : RackState) (reading reading' : Reading)
     → SoFar known manner name s desk desk' rack rack' reading reading' → s + 1 ≤ known.sectors → RackLasts rack' rack''
     → ((y : List ℕ) (views : List DriveView) → IsTrue desk'.tells → AllTell rack'' → Stands known manner y views s rack' reading' (desk'.files name)
-        → Halts known manner y views s rack'' (desk''.files name))
+    → Halts known manner y views s rack'' (desk''.files name))
     → (y : List ℕ) (views : List DriveView) → IsTrue desk.tells → AllTell rack'' → Stands known manner y views 0 rack reading (desk.files name)
     → Halted known manner y views rack'' (desk''.files name)
 so_far_halted known manner name s desk desk' desk'' rack rack' rack'' reading reading' so inside lasts step y views t tell st =

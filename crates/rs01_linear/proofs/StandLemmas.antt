@@ -11,12 +11,12 @@ use Rattle.rs01_sums.specs.Marker.{marker}
 use Rattle.rs01_outside.specs.Files.{Files, Writes, WritesAt}
 use Rattle.rs01_outside.specs.DriveView.{DriveView}
 use Rattle.rs01_rack.specs.Rack.{RackState, views_of}
-use Rattle.rs01_ecchead.specs.Erased.{Known, block_in, image_len, is_erased}
+use Rattle.rs01_ecchead.specs.Erased.{Known, block_in, is_erased}
 use Rattle.rs01_layers.specs.declared.extent.Extent.{Extent}
 use Rattle.rs01_linear.specs.Asking.{Asking, ComesTo, ask_drives, kind_of, known_with}
 use Rattle.rs01_linear.specs.Course.{Course, Manner, asked_for, asked_or_left, fate_of, pass, passed, read_to}
 use Rattle.rs01_linear.specs.Left.{first_fate, first_fates, image_left, marked, marked_sector, mixed}
-use Rattle.rs01_linear.specs.Marking.{IsMixed, is_left_out, place}
+use Rattle.rs01_linear.specs.Marking.{is_left_out, place}
 use Rattle.rs01_linear.specs.Standing.{Halts, Stands}
 use Rattle.rs01_linear.specs.declared.asking.Asked.{Asked}
 use Rattle.rs01_linear.specs.declared.asking.Asked.TheVariants as asked

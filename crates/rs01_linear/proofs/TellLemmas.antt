@@ -1,5 +1,5 @@
 -- Lists and counts of sectors, one sector more at a time.
-use Rattle.std.proofs.Common.{◌≡◌, ℕ, zero, suc, ◌+◌, ◌<◌, ◌≤◌, ◌∙◌, ap, arith, sym, refl, List, [], ◌∷◌, ◌++◌, Bool, true, false, cond, length, count_by, add-one, get_or}
+use Rattle.std.proofs.Common.{◌≡◌, ℕ, ◌+◌, ◌<◌, ◌∙◌, ap, arith, sym, List, [], ◌∷◌, ◌++◌, Bool, true, false, cond, length, count_by, add-one, get_or}
 use Rattle.std.specs.Prelude.{filter}
 use Rattle.std.specs.List.{range_with_len}
 use Rattle.std.specs.Option.{option_map_or}

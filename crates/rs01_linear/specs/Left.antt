@@ -1,5 +1,5 @@
 -- What a reading leaves of the image file y.
-use Rattle.std.specs.Prelude.{ℕ, ◌+◌, ◌-◌, ◌*◌, ◌≡◌, ◌⊎◌, List, ◌++◌, Option, Some, IsSomeAnd, drop, if◌then◌else◌, map, min, take}
+use Rattle.std.specs.Prelude.{ℕ, ◌≡◌, ◌⊎◌, List, ◌++◌, drop, if◌then◌else◌, map, take}
 use Rattle.std.specs.List.{flat_map, range_with_len}
 use Rattle.rs01_layers.specs.Sectors.{length_of}
 use Rattle.rs01_sums.specs.Marker.{marker}

@@ -1,7 +1,7 @@
 -- Reading a medium into an image: how the image file is got ready.
 use Rattle.std.specs.Prelude.{ℕ, ◌≡◌, ◌⊎◌, List, [], Option, Some, None, Result, Ok, Err, length}
 use Rattle.std.specs.Option.{unwrap_or}
-use Rattle.rs01_linear.specs.Left.{first_fates, image_left, marked, mixed}
+use Rattle.rs01_linear.specs.Left.{first_fates, marked, mixed}
 use Rattle.rs01_linear.specs.Marking.{IsMixed, place}
 use Rattle.rs01_ecchead.specs.Erased.{Known}
 use Rattle.rs01_rack.specs.Rack.{RackState}

@@ -1,16 +1,17 @@
 -- What a reading into a named image leaves and answers. The image file before is y, and none where it wasn't there.
-use Rattle.std.specs.Prelude.{ℕ, ◌≡◌, ◌≤◌, ◌⊎◌, ◌-◌, ◌^◌, List, Option, Some, Result, Ok, Err, IsOkAnd, IsSomeAnd, length, min}
-use Rattle.rs01_outside.specs.DriveView.{DriveView}
-use Rattle.rs01_outside.specs.Files.{Becomes, Files, bytes_of}
+use Rattle.std.specs.Prelude.{ℕ, ◌≡◌, ◌≤◌, ◌⊎◌, ◌-◌, ◌^◌, List, [], Option, Some, Result, Ok, Err, IsOkAnd, IsSomeAnd, length, min}
+use Rattle.std.specs.Option.{unwrap_or}
+use Rattle.rs01_rack.specs.Counting.{GivesNumber, HasCause}
 use Rattle.rs01_rack.specs.Rack.{RackState, views_of}
 use Rattle.rs01_ecchead.specs.Erased.{Known, image_len}
 use Rattle.rs01_report.specs.declared.reports.ReadReport.{ReadReport}
 use Rattle.rs01_linear.specs.Course.{Manner, read_to, whole_reading}
 use Rattle.rs01_linear.specs.Left.{IsOnTheWay, image_left, marked}
-use Rattle.rs01_linear.specs.Medium.{Found, found}
+use Rattle.rs01_linear.specs.Medium.{IsUnfit, found}
 use Rattle.rs01_linear.specs.Refusal.{IsOfMedium}
 use Rattle.rs01_linear.specs.Report.{report_of}
 use Rattle.rs01_linear.specs.declared.refusal.ReadRefusal.{ReadRefusal}
+use Rattle.rs01_linear.specs.declared.refusal.ReadRefusal.TheVariants.{DriveSize, Ecc, Rack}
 
 -- how many asks a rack counted since, up to the last value of a u64
 abbrev pub asked_since : RackState → RackState → ℕ
@@ -28,3 +29,27 @@ pub record IsLeftAt (known : Known) (manner : Manner) (y : List ℕ) (old new : 
   pub inside : passed ≤ known.sectors
   pub views_are : views_of new ≡ (read_to known manner y (views_of old) passed).views
   pub file_is : (file ≡ before) ⊎ IsSomeAnd file (IsOnTheWay y (marked known y) (image_left known manner y (views_of old)))
+
+-- nothing has changed: neither the drives' views nor the image file
+pub record IsUntouched (old new : RackState) (before file : Option (List ℕ)) : Type 0 where
+  pub views_are : views_of new ≡ views_of old
+  pub file_is : file ≡ before
+
+-- a medium that is refused is refused as its file and its drives say, and nothing has changed; after a fault or want of
+-- memory nothing has changed or the reading is left at some sector
+pub record IsUnread (given : Option (Option (List ℕ))) (manner : Manner) (old new : RackState) (before file : Option (List ℕ)) (why : ReadRefusal) : Type 0 where
+  pub refused : IsOfMedium why → found given (views_of old) ≡ Err why
+  pub untouched : IsOfMedium why → IsUntouched old new before file
+  pub left : IsUntouched old new before file ⊎ IsOkAnd (found given (views_of old)) (λ f. IsLeftAt f.known manner (unwrap_or before []) old new before file)
+
+-- what a reading leaves and answers, where the desk and the drives tell
+abbrev pub Reads : Option (Option (List ℕ)) → Manner → (old new : RackState) → (before file : Option (List ℕ)) → Result ReadReport ReadRefusal → Type 0
+Reads given manner old new before file (Ok told) = IsOkAnd (found given (views_of old)) (λ f. IsReadInto f.known manner (unwrap_or before []) old new file told)
+Reads given manner old new before file (Err why) = IsUnread given manner old new before file why
+
+-- a refusal of the drives, whether they tell or not: what they gave, and with which cause
+abbrev pub RefusesBy : {T : Type 0} → Result T ReadRefusal → RackState → RackState → Type 0
+RefusesBy (Err (Ecc why)) old new = new ≡ old
+RefusesBy (Err (Rack why)) old new = GivesNumber (Err why) old new × HasCause (Err why) old new
+RefusesBy (Err (DriveSize n)) old new = GivesNumber (Ok n) old new × IsUnfit n
+RefusesBy answer old new = Unit {0}

@@ -1,5 +1,5 @@
 -- What is told of a medium that was read, by what became of each sector.
-use Rattle.std.specs.Prelude.{ℕ, ◌-◌, Bool, true, false, List, [], count_by, filter, length, slice_get}
+use Rattle.std.specs.Prelude.{ℕ, Bool, true, false, List, [], count_by, filter, length, slice_get}
 use Rattle.std.specs.List.{range_with_len}
 use Rattle.std.specs.Option.{option_map_or}
 use Rattle.rs01_report.specs.declared.reports.ReadReport.{ReadReport}

@@ -1,13 +1,11 @@
 -- How far a reading into an image file y has come.
 use Rattle.std.specs.Prelude.{ℕ, ◌≡◌, ◌≤◌, ◌++◌, ◌+◌, List, Option, Some, Result, Ok, Err, drop}
-use Rattle.rs01_outside.specs.DeskState.{DeskState}
 use Rattle.rs01_outside.specs.DriveView.{DriveView}
-use Rattle.rs01_rack.specs.Rack.{AllTell, RackState, views_of}
+use Rattle.rs01_rack.specs.Rack.{RackState, views_of}
 use Rattle.rs01_ecchead.specs.Erased.{Known}
-use Rattle.rs01_linear.specs.Course.{Course, Manner, read_to}
+use Rattle.rs01_linear.specs.Course.{Manner, read_to}
 use Rattle.rs01_linear.specs.Left.{first_fates, image_left, marked, mixed}
 use Rattle.rs01_linear.specs.Marking.{IsMixed, place}
-use Rattle.rs01_linear.specs.declared.fate.Fate.{Fate}
 use Rattle.rs01_linear.specs.declared.reading.Reading.{Reading}
 
 -- drives, what is kept and the image file, once the sectors below s were passed

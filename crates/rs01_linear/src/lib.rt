@@ -15,6 +15,7 @@ mod telling;
 
 pub use asking::{Asked, ask_sector};
 pub use fate::Fate;
+pub use linear::read_linear;
 pub use medium::Medium;
 pub use opening::open_medium;
 pub use refusal::ReadRefusal;

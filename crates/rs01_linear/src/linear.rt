@@ -1,16 +1,19 @@
 //! Reading a medium into an image, in rising order.
-ghost use Rattle.std.specs.Prelude.{◌≡◌, ◌≤◌, ◌-◌, ◌^◌, IfErr, IsTrue, List, Option, length, min, ℕ};
+ghost use Rattle.std.specs.Prelude.{◌≡◌, ◌≢◌, ◌≤◌, ◌-◌, ◌^◌, IfErr, IsTrue, List, Option, length, min, ℕ};
+ghost use Rattle.std.specs.Option.{ForSome, option_map};
 ghost use Rattle.rs01_outside.specs.DeskState.{WorksOn};
 ghost use Rattle.rs01_rack.specs.Rack.{AllTell};
 ghost use Rattle.rs01_linear.specs.Course.{Manner};
 ghost use Rattle.rs01_linear.specs.Lasting.{RackLasts};
 ghost use Rattle.rs01_linear.specs.Linear.{IsPrepared, ReadsPrepared};
 ghost use Rattle.rs01_linear.specs.Medium.{known_of};
+ghost use Rattle.rs01_linear.specs.Outcome.{Reads, RefusesBy};
 ghost use Rattle.rs01_linear.specs.Racks.{seen_by};
 ghost use Rattle.rs01_linear.specs.Refusal.{IsOfWork, is_read_fault, is_write_fault};
 
 use crate::medium::Medium;
-use crate::prepared::Prepared;
+use crate::opening::open_medium;
+use crate::prepared::{Prepared, prepare};
 use crate::reading::{Reading, read_sectors};
 use crate::refusal::ReadRefusal;
 use crate::telling::report;
@@ -64,4 +67,43 @@ fn read_prepared<D: Desk>(
     let asked = asked_since(asks, rack);
     let surplus = prepared.size.saturating_sub(medium.extent.image_len());
     Ok(report(alloc, &reading.fates, asked, surplus)?)
+}
+
+/// Reads the medium in the drives into the image under the name `image`, by its error correction file where one is given.
+///
+/// The sectors are taken in rising order. One that the image file has good isn't asked for. After one that was asked for
+/// and not read the next `jump - 1` are left out. Each drive is asked `tries` times at most. The image file is made where
+/// it isn't there, and before the first ask each sector that isn't good gets its marker, in long runs; each sector that is
+/// read goes out by one write of its own. Bytes past the image stay, and so do all other files.
+///
+/// The refusals of the file and of the drives come first, in this order, and nothing has changed then. After a fault or
+/// want of memory the drives were asked for the first sectors alone, and the image file is as it was, or its first bytes
+/// are those of the marked file, or of the one that the whole reading leaves, and the others are those before.
+pub fn read_linear<D: Desk>(
+    alloc: Global,
+    rack: &mut Rack,
+    desk: &mut D,
+    image: &str,
+    ecc: Option<&str>,
+    jump: u32,
+    tries: u32,
+) -> Result<ReadReport, ReadRefusal>
+    requires names { ForSome ecc (λ name. image.now ≢ name.now) }
+    requires jump { (1 ≤ jump) × (jump ≤ 1048576) }
+    requires tries { (1 ≤ tries) × (tries ≤ 16) }
+    ensures works { WorksOn image.now (D.state desk.old) (D.state desk.new)
+        (is_read_fault result) (is_write_fault result) }
+    ensures lasts { RackLasts (seen_by ⟦<dyn Drive as Drive>⟧ rack.old)
+        (seen_by ⟦<dyn Drive as Drive>⟧ rack.new) }
+    ensures refused { RefusesBy result (seen_by ⟦<dyn Drive as Drive>⟧ rack.old)
+        (seen_by ⟦<dyn Drive as Drive>⟧ rack.new) }
+    ensures told { IsTrue (D.state desk.old).tells → AllTell (seen_by ⟦<dyn Drive as Drive>⟧ rack.new)
+        → Reads (option_map (λ name. (D.state desk.old).files name.now) ecc.entry)
+        (record { jump = jump; tries = tries }) (seen_by ⟦<dyn Drive as Drive>⟧ rack.old)
+        (seen_by ⟦<dyn Drive as Drive>⟧ rack.new) ((D.state desk.old).files image.now)
+        ((D.state desk.new).files image.now) result }
+{
+    let medium = open_medium(alloc, desk, ecc, rack)?;
+    let prepared = prepare(alloc, desk, image, &medium)?;
+    Ok(read_prepared(alloc, rack, desk, image, &medium, jump, tries, prepared)?)
 }

@@ -1,11 +1,11 @@
 //! Opening a medium.
-ghost use Rattle.std.specs.Prelude.{◌≤◌, IfErr, IsTrue, length};
+ghost use Rattle.std.specs.Prelude.{◌≡◌, ◌≤◌, IfErr, IsTrue, false, length};
 ghost use Rattle.std.specs.Option.{option_map};
 ghost use Rattle.rs01_outside.specs.DeskState.{OnlyReads};
 ghost use Rattle.rs01_rack.specs.Rack.{AllTell, views_of};
 ghost use Rattle.rs01_linear.specs.Medium.{Finds, IsFound, MakesMedium, OpensGiven};
 ghost use Rattle.rs01_linear.specs.Racks.{seen_by};
-ghost use Rattle.rs01_linear.specs.Refusal.{IsOfOpening, is_read_fault};
+ghost use Rattle.rs01_linear.specs.Refusal.{IsOfOpening, is_read_fault, is_write_fault};
 
 use crate::medium::Medium;
 use crate::refusal::ReadRefusal;
@@ -69,6 +69,7 @@ pub fn open_medium<D: Desk>(
 ) -> Result<Medium, ReadRefusal>
     requires few { length rack.old.drives.items ≤ 65536 }
     ensures reads { OnlyReads (D.state desk.old) (D.state desk.new) (is_read_fault result) }
+    ensures no_write { is_write_fault result ≡ false }
     ensures asked { Finds result (seen_by ⟦<dyn Drive as Drive>⟧ rack.old)
         (seen_by ⟦<dyn Drive as Drive>⟧ rack.new) }
     ensures told { IsTrue (D.state desk.old).tells → AllTell (seen_by ⟦<dyn Drive as Drive>⟧ rack.new)

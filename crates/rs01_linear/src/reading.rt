@@ -75,7 +75,14 @@ fn pass_sector<D: Desk>(
         return Ok(());
     }
     let mut block = [0u8; 2048];
-    let asked = ask_sector(rack, &medium.extent, medium.sums(), sector, tries, &mut block);
+    let asked = ask_sector(
+        rack,
+        &medium.extent,
+        medium.sums(),
+        sector,
+        tries,
+        &mut block,
+    );
     reading.fates[sector as usize] = fate_of(asked);
     match asked {
         Asked::Read => {

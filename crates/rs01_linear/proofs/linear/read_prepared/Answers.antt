@@ -1,4 +1,4 @@
-use Rattle.std.proofs.Common.{◌≡◌, ◌∙◌, ◌-◌, ◌^◌, ap, min, refl, sym}
+use Rattle.std.proofs.Common.{◌∙◌, ◌-◌, ◌^◌, ap, min, refl}
 use Rattle.std.proofs.lemmas.Result.{err_from_is_err_and}
 use Rattle.rs01_linear.specs.Medium.{known_of}
 use Rattle.rs01_linear.specs.Report.{report_of}

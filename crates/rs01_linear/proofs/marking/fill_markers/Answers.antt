@@ -1,7 +1,7 @@
 use Rattle.std.proofs.Common.{take}
 use Rattle.rs01_layers.specs.Sectors.{length_of}
 use Rattle.rs01_sums.specs.Marker.{marker}
-use Rattle.rs01_linear.proofs.MarkLemmas.{one_more, pass_good, run_bytes}
+use Rattle.rs01_linear.proofs.MarkLemmas.{one_more}
 use Rattle.rs01_linear.proofs.marking.fill_markers.Goals as goal
 
 pub loop-sector-preserved : goal.loop-sector-preserved

@@ -3,7 +3,6 @@ use Rattle.std.specs.List.{flat_map, range_with_len}
 use Rattle.rs01_layers.specs.Sectors.{length_of}
 use Rattle.rs01_sums.specs.Marker.{marker}
 use Rattle.rs01_linear.proofs.marking.fill_markers.Given as goal
-use Rattle.rs01_linear.proofs.MarkLemmas.{kept_part}
 
 abbrev pub invariant-loop-sector : goal.invariant-loop-sector
 invariant-loop-sector l =

@@ -1,9 +1,4 @@
-use Rattle.std.proofs.Common.{◌-◌, ◌≤◌, ◌≡◌, ℕ, false, List, Some}
-use Rattle.std.specs.Prelude.{IsTrue, Option}
-use Rattle.rs01_outside.specs.DeskState.{WorksOn}
-use Rattle.rs01_linear.specs.Asking.{known_with}
-use Rattle.rs01_linear.specs.Left.{first_fates, marked, mixed}
-use Rattle.rs01_linear.specs.Marking.{place}
+use Rattle.std.proofs.Common.{◌-◌}
 use Rattle.rs01_linear.proofs.MarkLemmas.{IsMarking}
 use Rattle.rs01_linear.proofs.marking.put_markers.Given as goal
 

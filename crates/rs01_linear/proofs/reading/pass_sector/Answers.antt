@@ -1,6 +1,5 @@
 use Rattle.std.proofs.Common.{◌≡◌, ◌∙◌, ◌*◌, ◌≤◌, ap, arith, refl, sym, take}
 use Rattle.std.proofs.Math.ListN.{set}
-use Rattle.rs01_linear.specs.Asking.{known_with}
 use Rattle.rs01_linear.specs.Medium.{known_of}
 use Rattle.rs01_linear.specs.declared.asking.Asked.TheVariants as asked
 use Rattle.rs01_linear.proofs.MarkLemmas.{sized_by}

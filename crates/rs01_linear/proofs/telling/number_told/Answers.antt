@@ -1,4 +1,4 @@
-use Rattle.std.proofs.Common.{◌<◌, ◌≤◌, ◌+◌, ◌≡◌, ◌∙◌, arith, length, sym, true, false}
+use Rattle.std.proofs.Common.{◌<◌, ◌∙◌, arith, length, sym}
 use Rattle.rs01_linear.specs.Report.{tells_of}
 use Rattle.rs01_linear.proofs.TellLemmas.{none_more_counted, one_more_counted, tells_at}
 use Rattle.rs01_linear.proofs.telling.number_told.Goals as goal

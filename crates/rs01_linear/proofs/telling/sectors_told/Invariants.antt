@@ -2,7 +2,6 @@ use Rattle.std.proofs.Common.{◌≡◌}
 use Rattle.std.specs.Prelude.{filter}
 use Rattle.std.specs.List.{range_with_len}
 use Rattle.rs01_linear.specs.Report.{tells_of}
-use Rattle.rs01_linear.proofs.TellLemmas.{one_more_kept}
 use Rattle.rs01_linear.proofs.telling.sectors_told.Given as goal
 
 abbrev pub invariant-loop-sector : goal.invariant-loop-sector

@@ -1,0 +1,43 @@
+use Rattle.std.proofs.Common.{ap, sym, subst}
+use Rattle.std.specs.Prelude.{IsTrue}
+use Rattle.std.proofs.lemmas.Result.{err_from_is_err_and}
+use Rattle.rs01_outside.specs.Files.{Files}
+use Rattle.rs01_linear.specs.Refusal.{IsOfWork}
+use Rattle.rs01_linear.proofs.EndLemmas.{ends_left, ends_read, ends_unprepared}
+use Rattle.rs01_linear.proofs.LastingLemmas.{lasts_then, told_before}
+use Rattle.rs01_linear.proofs.linear.read_linear.Goals as goal
+
+pub returns-in_err-read_prepared-clause-lasts : goal.returns-in_err-read_prepared-clause-lasts
+returns-in_err-read_prepared-clause-lasts g c = lasts_then _ _ _ c.in_ok-medium.ensures.asked.lasts c.in_err-read_prepared.ensures.lasts
+
+pub returns-clause-lasts : goal.returns-clause-lasts
+returns-clause-lasts g c = lasts_then _ _ _ c.in_ok-medium.ensures.asked.lasts c.in_ok-read_prepared.ensures.lasts
+
+pub returns-in_err-prepared-clause-told : goal.returns-in_err-prepared-clause-told
+returns-in_err-prepared-clause-told g c = λ t tell.
+    let p = err_from_is_err_and c.from_residual-in_err-prepared.result c.from_residual-in_err-prepared.ensures.1 in
+    let t1 = subst IsTrue (sym c.in_ok-medium.ensures.reads.tells) t in
+    let still = ap (λ (f : Files). f c.args.image.now) (c.in_ok-medium.ensures.reads.unchanged t) in
+    ends_unprepared _ _ c.in_ok-medium.medium _ _ _ _ _ c.from_residual-in_err-prepared.result p.0 p.1 (subst IsOfWork (sym p.2) c.in_err-prepared.ensures.causes)
+    (c.in_ok-medium.ensures.told t tell) (c.in_ok-medium.ensures.asked.same tell) still (c.in_err-prepared.ensures.told t1)
+
+pub returns-in_err-read_prepared-clause-told : goal.returns-in_err-read_prepared-clause-told
+returns-in_err-read_prepared-clause-told g c = λ t tell.
+    let p = err_from_is_err_and c.from_residual-in_err-read_prepared.result c.from_residual-in_err-read_prepared.ensures.1 in
+    let t1 = subst IsTrue (sym c.in_ok-medium.ensures.reads.tells) t in
+    let t2 = subst IsTrue (sym c.in_ok-prepared.ensures.works.tells) t1 in
+    let tell1 = told_before _ _ c.in_err-read_prepared.ensures.lasts tell in
+    let still = ap (λ (f : Files). f c.args.image.now) (c.in_ok-medium.ensures.reads.unchanged t) in
+    ends_left _ _ c.in_ok-medium.medium _ _ _ _ _ _ c.from_residual-in_err-read_prepared.result p.0 p.1 (subst IsOfWork (sym p.2) c.in_err-read_prepared.ensures.causes)
+    (c.in_ok-medium.ensures.told t tell1) (c.in_ok-medium.ensures.asked.same tell1) still
+    (c.in_err-read_prepared.ensures.told _ t2 tell (c.in_ok-prepared.ensures.told t1))
+
+pub returns-clause-told : goal.returns-clause-told
+returns-clause-told g c = λ t tell.
+    let t1 = subst IsTrue (sym c.in_ok-medium.ensures.reads.tells) t in
+    let t2 = subst IsTrue (sym c.in_ok-prepared.ensures.works.tells) t1 in
+    let tell1 = told_before _ _ c.in_ok-read_prepared.ensures.lasts tell in
+    let still = ap (λ (f : Files). f c.args.image.now) (c.in_ok-medium.ensures.reads.unchanged t) in
+    ends_read _ _ c.in_ok-medium.medium _ _ _ _ _ _ c.in_ok-read_prepared.field-0
+    (c.in_ok-medium.ensures.told t tell1) (c.in_ok-medium.ensures.asked.same tell1) c.in_ok-medium.ensures.asked.asks still
+    (c.in_ok-read_prepared.ensures.told _ t2 tell (c.in_ok-prepared.ensures.told t1))
