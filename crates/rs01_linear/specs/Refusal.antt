@@ -73,3 +73,12 @@ IsOfWork (DriveSize n) = ⊥
 IsOfWork ReadFault = Unit {0}
 IsOfWork WriteFault = Unit {0}
 IsOfWork OutOfMemory = Unit {0}
+
+-- a refusal of work that only reads files: never a fault or want of memory inside the file's refusal, nor a fault of writing
+abbrev pub IsOfReading : ReadRefusal → Type 0
+IsOfReading (Ecc why) = IsOfFile why
+IsOfReading (Rack why) = Unit {0}
+IsOfReading (DriveSize n) = Unit {0}
+IsOfReading ReadFault = Unit {0}
+IsOfReading WriteFault = ⊥
+IsOfReading OutOfMemory = Unit {0}

@@ -5,7 +5,7 @@ ghost use Rattle.rs01_outside.specs.DeskState.{OnlyReads};
 ghost use Rattle.rs01_rack.specs.Rack.{AllTell, views_of};
 ghost use Rattle.rs01_linear.specs.Medium.{Finds, IsFound, MakesMedium, OpensGiven};
 ghost use Rattle.rs01_linear.specs.Racks.{seen_by};
-ghost use Rattle.rs01_linear.specs.Refusal.{IsOfOpening, is_read_fault, is_write_fault};
+ghost use Rattle.rs01_linear.specs.Refusal.{IsOfOpening, IsOfReading, is_read_fault, is_write_fault};
 
 use crate::medium::Medium;
 use crate::refusal::ReadRefusal;
@@ -75,6 +75,7 @@ pub fn open_medium<D: Desk>(
     ensures told { IsTrue (D.state desk.old).tells → AllTell (seen_by ⟦<dyn Drive as Drive>⟧ rack.new)
         → IsFound (option_map (λ name. (D.state desk.old).files name.now) ecc.entry)
         (views_of (seen_by ⟦<dyn Drive as Drive>⟧ rack.old)) result }
+    ensures causes { IfErr result IsOfReading }
 {
     let opened = open_given(alloc, desk, ecc)?;
     let number = rack.sectors()?;

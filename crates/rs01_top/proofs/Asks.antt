@@ -1,6 +1,6 @@
 -- What holds of a run whose words, or whose command, give no work.
 use Rattle.std.proofs.Common.{◌≡◌, ℕ, List, refl, sym, subst}
-use Rattle.std.specs.Prelude.{Result, Err}
+use Rattle.std.specs.Prelude.{Result, Ok, Err}
 use Rattle.rs01_outside.specs.DeskState.{DeskState}
 use Rattle.rs01_outside.specs.SinkState.{SinkState}
 use Rattle.rs01_rack.specs.Rack.{RackState}
@@ -37,10 +37,12 @@ word_run asked refused words desk rack out out' status e ends =
     (not_begun (word_fault refused) desk rack out out' status (word_is refused.fault refused.place) ends)
 
 -- the command that was asked for, by the arm that it came to
-pub as_asked : (asked command : Command) (words : List (List ℕ)) (old new : World) (status : ℕ)
-    → asked ≡ command → IsRun (work_of words command) old new status
-    → IsRun (work_of words asked) old new status
-as_asked asked command words old new status e run = subst (λ (a : Command). IsRun (work_of words a) old new status) (sym e) run
+pub as_asked : (read : Result Command WordRefused) (asked command : Command) (words : List (List ℕ)) (old new : World) (status : ℕ)
+    → Ok asked ≡ read → asked ≡ command → IsRun (work_of words command) old new status
+    → IsRun (work_by words read) old new status
+as_asked read asked command words old new status by is run =
+    subst (λ (r : Result Command WordRefused). IsRun (work_by words r) old new status) by
+    (subst (λ (a : Command). IsRun (work_of words a) old new status) (sym is) run)
 
 -- work on two names, which are words
 pub by_names : (work : List ℕ → List ℕ → Work) (a b x y : List ℕ) (old new : World) (status : ℕ) → a ≡ x → b ≡ y

@@ -1,11 +1,10 @@
 -- What holds of a run, by how its work and its last text ended.
 use Rattle.std.proofs.Common.{◌≡◌, ◌≢◌, ◌≤◌, ℕ, List, [], ◌++◌, length, refl, sym, ◌∙◌, ap, subst, arith, ◌⊎◌, inl, inr, ⊎_elim, true, false}
-use Rattle.std.specs.Prelude.{IsTrue, IsSome, Option, Some, None, Result, Ok, Err, not, slice_get}
+use Rattle.std.specs.Prelude.{IsTrue, IsSome, Option, Some, None, Result, Ok, Err, not, Bool}
 use Rattle.std.proofs.Math.Seq.{take-length}
 use Rattle.rs01_outside.proofs.States.{reads-start, works-reads}
 use Rattle.rs01_outside.specs.Causes.{Rose}
 use Rattle.rs01_outside.specs.DeskState.{DeskState, WorksOn}
-use Rattle.rs01_outside.specs.DriveState.{DriveState}
 use Rattle.rs01_outside.specs.SinkState.{SinkState}
 use Rattle.rs01_report.specs.declared.faults.Fault.{Fault}
 use Rattle.rs01_report.specs.declared.faults.Fault.TheVariants as fault
@@ -13,10 +12,12 @@ use Rattle.rs01_report.specs.declared.puts.PutRefusal.{PutRefusal}
 use Rattle.rs01_report.specs.declared.puts.PutRefusal.TheVariants.{SinkFault, OutOfMemory}
 use Rattle.rs01_report.specs.Faults.{fault_line, status_of}
 use Rattle.rs01_report.specs.Puts.{PutsText}
+use Rattle.rs01_linear.specs.Lasting as lasting
+use Rattle.rs01_linear.proofs.LastingLemmas.{same_lasts}
 use Rattle.rs01_rack.specs.Rack.{RackState}
 use Rattle.rs01_top.specs.Outside.{Outside, World, outside_of, world}
 use Rattle.rs01_top.specs.Work.{Answers, AnswersBy, Work, no_work}
-use Rattle.rs01_top.specs.Run.{Begins, DriveLasts, Ends, IsKnown, IsRun, IsSettled, NothingRose, RackLasts, RaisedCount, Tells, ended}
+use Rattle.rs01_top.specs.Run.{Begins, Ends, IsKnown, IsRun, IsSettled, NothingRose, RackLasts, RaisedCount, Tells, ended}
 
 -- how the last text of a run was put, which was to end with a status that is not 6 or 7
 record IsTold (line : List ℕ) (wanted : ℕ) (out out' : SinkState) (status : ℕ) : Type 0 where
@@ -138,17 +139,16 @@ pub record OfRack (work : Work) (old new : RackState) : Type 0 where
   pub lasts : RackLasts old new
   pub unused : IsTrue (not work.uses_drives) → new ≡ old
 
-same_drive : (o : Option DriveState) (before after : DriveState) → o ≡ Some before → o ≡ Some after → DriveLasts before after
-same_drive o before after e d =
-    let same : before ≡ after = cc in
-    record {
-      told_before = λ t. subst (λ (s : DriveState). IsTrue s.tells) (sym same) t;
-      later = subst (λ (s : DriveState). before.faults ≤ s.faults) same (omega arith);
-    }
+-- drives that were asked
+pub rack_lasts : (old new : RackState) → lasting.RackLasts old new → RackLasts old new
+rack_lasts old new lasts = record { number = lasts.number; each = lasts.each }
 
--- drives that weren't asked
+pub was_asked : (work : Work) (old new : RackState) → work.uses_drives ≡ true → lasting.RackLasts old new → OfRack work old new
+was_asked work old new uses lasts = record { lasts = rack_lasts old new lasts; unused = λ h. absurd (not_false (subst (λ (b : Bool). IsTrue (not b)) uses h)) }
+
+-- drives that weren't
 pub rack_stays : (rack : RackState) → RackLasts rack rack
-rack_stays rack = record { number = refl; each = λ k before after e d. same_drive (slice_get rack.drives k) before after e d }
+rack_stays rack = record { number = refl; each = λ k before after was is. same_lasts rack.drives rack.drives k before after refl was is }
 
 pub not_asked : (work : Work) (rack : RackState) → OfRack work rack rack
 not_asked work rack = record { lasts = rack_stays rack; unused = λ h. refl }

@@ -4,4 +4,5 @@ mod Creates
 mod Endings
 mod Fixes
 mod HeadFaults
+mod Scans
 mod Verifies

@@ -11,6 +11,12 @@ use Rattle.rs01_ecchead.specs.declared.head.HeadRefusal.{HeadRefusal}
 use Rattle.rs01_ecchead.specs.declared.head.HeadRefusal.TheVariants as head
 use Rattle.rs01_ecchead.specs.declared.opened.Which.{Which}
 use Rattle.rs01_ecchead.specs.declared.opened.Which.TheVariants as which
+use Rattle.rs01_ecchead.specs.declared.opened.EccRefusal.{EccRefusal}
+use Rattle.rs01_ecchead.specs.declared.opened.EccRefusal.TheVariants as ecc
+use Rattle.rs01_linear.specs.declared.refusal.ReadRefusal.{ReadRefusal}
+use Rattle.rs01_linear.specs.declared.refusal.ReadRefusal.TheVariants as read
+use Rattle.rs01_rack.specs.declared.refusal.RackRefusal.{RackRefusal}
+use Rattle.rs01_rack.specs.declared.refusal.RackRefusal.TheVariants as rack
 use Rattle.rs01_fix.specs.declared.refusal.FixRefusal.{FixRefusal}
 use Rattle.rs01_fix.specs.declared.refusal.FixRefusal.TheVariants as fix
 use Rattle.rs01_verify.specs.declared.refusal.VerifyRefusal.{VerifyRefusal}
@@ -73,3 +79,27 @@ fix_fault (fix.Body have want) = fault.Body have want
 fix_fault fix.ReadFault = fault.ReadFault
 fix_fault fix.WriteFault = fault.WriteFault
 fix_fault fix.OutOfMemory = fault.OutOfMemory
+
+-- why an error correction file wasn't opened
+abbrev pub ecc_fault : EccRefusal → Fault
+ecc_fault ecc.NoFile = fault.NoEcc
+ecc_fault (ecc.Head why) = head_fault why
+ecc_fault (ecc.Size have want) = fault.Size have want
+ecc_fault (ecc.Body have want) = fault.Body have want
+ecc_fault ecc.ReadFault = fault.ReadFault
+ecc_fault ecc.OutOfMemory = fault.OutOfMemory
+
+-- why drives gave no number of sectors
+abbrev pub rack_fault : RackRefusal → Fault
+rack_fault rack.NoDrive = fault.NoDrive
+rack_fault (rack.Failed drive) = fault.Failed drive
+rack_fault (rack.Differ first other) = fault.Differ first other
+
+-- why a medium wasn't read or scanned
+abbrev pub read_fault : ReadRefusal → Fault
+read_fault (read.Ecc why) = ecc_fault why
+read_fault (read.Rack why) = rack_fault why
+read_fault (read.DriveSize sectors) = fault.DriveSize sectors
+read_fault read.ReadFault = fault.ReadFault
+read_fault read.WriteFault = fault.WriteFault
+read_fault read.OutOfMemory = fault.OutOfMemory

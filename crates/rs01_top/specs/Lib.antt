@@ -4,5 +4,6 @@ pub mod Work
 pub mod Create
 pub mod Fix
 pub mod Verify
+pub mod Scan
 pub mod Asked
 pub mod Run

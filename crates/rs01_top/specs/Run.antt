@@ -2,8 +2,8 @@
 use Rattle.std.specs.Prelude.{ℕ, ◌≡◌, ◌≢◌, ◌≤◌, ◌==◌, ◌⊎◌, not, if◌then◌else◌, List, length, true, false, IsTrue, IsSome, Some, Result, Ok, Err}
 use Rattle.rs01_outside.specs.Causes.{Rose}
 use Rattle.rs01_outside.specs.DeskState.{DeskState}
-use Rattle.rs01_outside.specs.DriveState.{DriveState}
 use Rattle.rs01_outside.specs.SinkState.{SinkState, Takes}
+use Rattle.rs01_linear.specs.Lasting as lasting
 use Rattle.rs01_rack.specs.Rack.{AllTell, AtDrive, FaultsRose, RackState}
 use Rattle.rs01_report.specs.declared.faults.Fault.{Fault}
 use Rattle.rs01_report.specs.declared.faults.Fault.TheVariants as fault
@@ -30,15 +30,10 @@ Begins out out' line = IsTrue out.tells → Takes true out.taken out'.taken line
 abbrev pub IsKnown : Work → World → World → Type 0
 IsKnown work old new = IsTrue old.desk.tells × (IsTrue work.uses_drives → AllTell new.rack)
 
--- a drive that tells told before, and its count of faults didn't fall
-pub record DriveLasts (before after : DriveState) : Type 0 where
-  pub told_before : IsTrue after.tells → IsTrue before.tells
-  pub later : before.faults ≤ after.faults
-
--- the drives are as many as before, and this holds of each
+-- the drives are as many as before, each that tells told before, and no count of theirs fell
 pub record RackLasts (old new : RackState) : Type 0 where
   pub number : length new.drives ≡ length old.drives
-  pub each : (k : ℕ) → AtDrive old.drives new.drives k DriveLasts
+  pub each : (k : ℕ) → AtDrive old.drives new.drives k lasting.Lasts
 
 -- desk and sink tell after the run what they told before, no count of faults fell, and the drives stay
 pub record Lasts (old new : World) : Type 0 where

@@ -1,4 +1,5 @@
 //! The commands: each does its work on the desk, and ends with its report or the line of a fault.
 pub mod create;
 pub mod fix;
+pub mod scan;
 pub mod verify;

@@ -1,10 +1,12 @@
 //! Which fault a refusal is told as.
 ghost use Rattle.std.specs.Prelude.{◌≡◌};
-ghost use Rattle.rs01_top.specs.Faults.{absent_fault, create_fault, fix_fault, head_fault, verify_fault, word_fault};
+ghost use Rattle.rs01_top.specs.Faults.{absent_fault, create_fault, ecc_fault, fix_fault, head_fault, rack_fault, read_fault, verify_fault, word_fault};
 
 use rs01_create::CreateRefusal;
-use rs01_ecchead::{HeadRefusal, Which};
+use rs01_ecchead::{EccRefusal, HeadRefusal, Which};
 use rs01_fix::FixRefusal;
+use rs01_linear::ReadRefusal;
+use rs01_rack::RackRefusal;
 use rs01_report::Fault;
 use rs01_verify::VerifyRefusal;
 use rs01_words::{WordFault, WordRefused};
@@ -92,5 +94,44 @@ pub fn fix_fault(why: FixRefusal) -> Fault
         FixRefusal::ReadFault => Fault::ReadFault,
         FixRefusal::WriteFault => Fault::WriteFault,
         FixRefusal::OutOfMemory => Fault::OutOfMemory,
+    }
+}
+
+// The fault of an error correction file that wasn't opened.
+pub fn ecc_fault(why: EccRefusal) -> Fault
+    ensures { result ≡ ecc_fault why }
+{
+    match why {
+        EccRefusal::NoFile => Fault::NoEcc,
+        EccRefusal::Head(why) => head_fault(why),
+        EccRefusal::Size { have, want } => Fault::Size(have, want),
+        EccRefusal::Body { have, want } => Fault::Body(have, want),
+        EccRefusal::ReadFault => Fault::ReadFault,
+        EccRefusal::OutOfMemory => Fault::OutOfMemory,
+    }
+}
+
+// The fault of drives that gave no number of sectors.
+pub fn rack_fault(why: RackRefusal) -> Fault
+    ensures { result ≡ rack_fault why }
+{
+    match why {
+        RackRefusal::NoDrive => Fault::NoDrive,
+        RackRefusal::Failed(drive) => Fault::Failed(drive),
+        RackRefusal::Differ(first, other) => Fault::Differ(first, other),
+    }
+}
+
+// The fault of a medium that wasn't read or scanned.
+pub fn read_fault(why: ReadRefusal) -> Fault
+    ensures { result ≡ read_fault why }
+{
+    match why {
+        ReadRefusal::Ecc(why) => ecc_fault(why),
+        ReadRefusal::Rack(why) => rack_fault(why),
+        ReadRefusal::DriveSize(sectors) => Fault::DriveSize(sectors),
+        ReadRefusal::ReadFault => Fault::ReadFault,
+        ReadRefusal::WriteFault => Fault::WriteFault,
+        ReadRefusal::OutOfMemory => Fault::OutOfMemory,
     }
 }

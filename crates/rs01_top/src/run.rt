@@ -1,15 +1,16 @@
 //! Doing what the words ask for.
-ghost use Rattle.std.specs.Prelude.{Ok, length};
-ghost use Rattle.rs01_words.specs.Command.{IsWithin, NamesDiffer};
-ghost use Rattle.rs01_words.specs.Line.{texts};
+ghost use Rattle.std.specs.Prelude.{◌≡◌, ◌<◌, IfSome, Ok, length};
+ghost use Rattle.std.specs.Option.{option_map};
+ghost use Rattle.rs01_words.specs.Line.{texts, word_at};
 ghost use Rattle.rs01_report.specs.Faults.{number_of};
-ghost use Rattle.rs01_top.specs.Asked.{work_for, work_of};
-ghost use Rattle.rs01_rack.specs.State.{rack_state};
+ghost use Rattle.rs01_top.specs.Asked.{work_for};
+ghost use Rattle.rs01_linear.specs.Racks.{seen_by};
 ghost use Rattle.rs01_top.specs.Outside.{world};
 ghost use Rattle.rs01_top.specs.Run.{IsRun};
 
 use crate::commands::create::run_create;
 use crate::commands::fix::run_fix;
+use crate::commands::scan::run_scan;
 use crate::commands::verify::run_verify;
 use crate::ending::fail;
 use crate::faults::word_fault;
@@ -19,59 +20,14 @@ use rs01_report::{Fault, Status};
 use rs01_words::{Command, read_words, word_at};
 use std::alloc::Global;
 
-// Does a command whose names are places of words.
-fn carry_out<D: Desk, S: Sink>(
-    alloc: Global,
-    words: &[String],
-    asked: &Command,
-    desk: &mut D,
-    rack: &mut Rack,
-    out: &mut S,
-) -> Status
-    requires within { IsWithin (length words.now) asked.now }
-    requires names { NamesDiffer (texts words.now) asked.now }
-    ensures run { let drives = rack_state (λ b. (⟦<dyn Drive as Drive>⟧ b.vtable).state b.value) in
-        IsRun (work_of (texts words.now) asked.now)
-        (world (D.state desk.old) (drives rack.old) (S.state out.old))
-        (world (D.state desk.new) (drives rack.new) (S.state out.new)) (number_of result) }
+// The word at a place, where there is one.
+fn word_if(words: &[String], place: Option<usize>) -> Option<&str>
+    requires { IfSome place (λ place. place < length words.now) }
+    ensures { option_map (λ word. word.now) result ≡ option_map (word_at (texts words.now)) place }
 {
-    match asked {
-        Command::Create {
-            image,
-            ecc,
-            parity,
-            ..
-        } => run_create(
-            alloc,
-            desk,
-            word_at(words, *image),
-            word_at(words, *ecc),
-            *parity,
-            out,
-        ),
-        Command::Fix {
-            image,
-            ecc,
-            cut,
-            ..
-        } => run_fix(
-            alloc,
-            desk,
-            word_at(words, *image),
-            word_at(words, *ecc),
-            *cut,
-            out,
-        ),
-        Command::Verify { image, ecc } => run_verify(
-            alloc,
-            desk,
-            word_at(words, *image),
-            word_at(words, *ecc),
-            out,
-        ),
-        Command::Scan { .. } => fail(alloc, &Fault::NotBuilt, out),
-        Command::Read { .. } => fail(alloc, &Fault::NotBuilt, out),
-        Command::Demo { .. } => fail(alloc, &Fault::NotBuilt, out),
+    match place {
+        Some(place) => Some(word_at(words, place)),
+        None => None,
     }
 }
 
@@ -83,14 +39,52 @@ fn answer<D: Desk, S: Sink>(
     rack: &mut Rack,
     out: &mut S,
 ) -> Status
-    ensures run { let drives = rack_state (λ b. (⟦<dyn Drive as Drive>⟧ b.vtable).state b.value) in
+    ensures run { let drives = seen_by ⟦<dyn Drive as Drive>⟧ in
         IsRun (work_for (texts words.now))
         (world (D.state desk.old) (drives rack.old) (S.state out.old))
         (world (D.state desk.new) (drives rack.new) (S.state out.new)) (number_of result) }
 {
-    match read_words(words) {
-        Ok(asked) => carry_out(alloc, words, &asked, desk, rack, out),
-        Err(refused) => fail(alloc, &word_fault(refused), out),
+    let asked = match read_words(words) {
+        Ok(asked) => asked,
+        Err(refused) => return fail(alloc, &word_fault(refused), out),
+    };
+    match asked {
+        Command::Create {
+            image,
+            ecc,
+            parity,
+            ..
+        } => run_create(
+            alloc,
+            desk,
+            word_at(words, image),
+            word_at(words, ecc),
+            parity,
+            out,
+        ),
+        Command::Fix {
+            image,
+            ecc,
+            cut,
+            ..
+        } => run_fix(
+            alloc,
+            desk,
+            word_at(words, image),
+            word_at(words, ecc),
+            cut,
+            out,
+        ),
+        Command::Verify { image, ecc } => run_verify(
+            alloc,
+            desk,
+            word_at(words, image),
+            word_at(words, ecc),
+            out,
+        ),
+        Command::Scan { ecc, .. } => run_scan(alloc, desk, word_if(words, ecc), rack, out),
+        Command::Read { .. } => fail(alloc, &Fault::NotBuilt, out),
+        Command::Demo { .. } => fail(alloc, &Fault::NotBuilt, out),
     }
 }
 
@@ -104,11 +98,12 @@ fn answer<D: Desk, S: Sink>(
 ///
 /// | Status | Where |
 /// |---|---|
-/// | 0 | the command was done; `fix` left no sector lost and found no layer strange; `verify` found no sector missing or altered, and the image's digest to match |
-/// | 1 | `fix` or `verify` was done, and it is otherwise |
+/// | 0 | the command was done; `fix` left no sector lost and found no layer strange; `verify` found no sector missing or altered, and the image's digest to match; `scan` found no sector unreadable or altered |
+/// | 1 | `fix`, `verify` or `scan` was done, and it is otherwise |
 /// | 2 | the words aren't in the grammar, or their command isn't built yet |
 /// | 3 | the image isn't there, is empty, has too many sectors, or has a sector that is marked as missing; or the error correction file isn't there or is damaged |
 /// | 4 | a file could not be read or written |
+/// | 5 | there is no drive, one doesn't tell its number of sectors, two differ in it, or a medium without a file has none or too many |
 /// | 6 | the output could not be put |
 /// | 7 | memory ran out |
 pub fn run_one<D: Desk, S: Sink>(
@@ -118,7 +113,7 @@ pub fn run_one<D: Desk, S: Sink>(
     rack: &mut Rack,
     out: &mut S,
 ) -> u8
-    ensures run { let drives = rack_state (λ b. (⟦<dyn Drive as Drive>⟧ b.vtable).state b.value) in
+    ensures run { let drives = seen_by ⟦<dyn Drive as Drive>⟧ in
         IsRun (work_for (texts words.now))
         (world (D.state desk.old) (drives rack.old) (S.state out.old))
         (world (D.state desk.new) (drives rack.new) (S.state out.new)) result }

@@ -1,7 +1,7 @@
 //! Runs: from words and files to the status, the bytes put, and the files.
 use crate::run_one;
-use rs01_fakes::{MemoryDesk, MemorySink};
-use rs01_outside::{Desk, Failed, Sink};
+use rs01_fakes::{MemoryDesk, MemorySink, Script, ScriptDrive};
+use rs01_outside::{Desk, Drive, Failed, Sink};
 use rs01_rack::Rack;
 use std::alloc::{AllocError, Global};
 use std::fmt::Write;
@@ -67,7 +67,6 @@ fn words_that_give_no_work(rt: HostRuntime) -> Result<(), Fail> {
         ("create a b --workers 0", "rs01: word 4: out of range\n"),
         ("create a", "rs01: word 2: something is missing\n"),
         ("create a a", "rs01: word 2: the same name twice\n"),
-        ("scan --drive d", "rs01: not built yet\n"),
         ("read a --drive d", "rs01: not built yet\n"),
         ("demo 1 300 32 40", "rs01: not built yet\n"),
     ] {
@@ -466,6 +465,205 @@ fn interrupted_repair(rt: HostRuntime) -> Result<(), Fail> {
         .file("disc.iso")
         .is_some_and(|file| file.iter().all(|byte| *byte == 0));
     assert!(rt; whole);
+    Ok(())
+}
+
+// A drive of zeros: so many sectors, one that it fails to read, and a byte that isn't 0.
+fn drive(
+    alloc: Global,
+    sectors: u32,
+    fault: Option<u32>,
+    altered: Option<usize>,
+) -> Result<ScriptDrive, AllocError> {
+    let mut drive = ScriptDrive::new(alloc, sectors)?;
+    if let Some(sector) = fault {
+        if sector < sectors {
+            drive.steady(alloc, sector, Script::Fault)?;
+        }
+    }
+    if let Some(at) = altered {
+        let image = image_with(alloc, at.saturating_add(1), at, &[1])?;
+        drive.load(alloc, &image)?;
+    }
+    Ok(drive)
+}
+
+// One drive or two.
+fn rack_of(
+    alloc: Global,
+    first: ScriptDrive,
+    second: Option<ScriptDrive>,
+) -> Result<Rack, AllocError> {
+    let mut drives: Vec<Box<dyn Drive>> = Vec::new(alloc);
+    drives.push(Box::new(alloc, first)?)?;
+    if let Some(second) = second {
+        drives.push(Box::new(alloc, second)?)?;
+    }
+    Rack::new(alloc, drives)
+}
+
+// Runs a line beside the file of an image of so many zeros, and tells the status and whether these bytes were put.
+fn scans(
+    alloc: Global,
+    bytes: usize,
+    line: &str,
+    rack: &mut Rack,
+    want: &str,
+) -> Result<(u8, bool), AllocError> {
+    let mut desk = protected(alloc, bytes, 32)?;
+    let words = words_of(alloc, line)?;
+    let mut out = MemorySink::new(alloc);
+    let status = run_one(alloc, &words, &mut desk, rack, &mut out);
+    Ok((status, out.bytes() == want.as_bytes()))
+}
+
+#[test]
+fn scanned_media(rt: HostRuntime) -> Result<(), Fail> {
+    // The bytes of the protected image, the words, a drive and maybe another one: its sectors, the one that it fails to
+    // read, and where it has a byte that isn't 0; the status, and what is put.
+    let cases: [(
+        usize,
+        &str,
+        (u32, Option<u32>, Option<usize>),
+        Option<(u32, Option<u32>, Option<usize>)>,
+        u8,
+        &str,
+    ); 12] = [
+        (
+            20_480,
+            "scan --drive d",
+            (10, Some(3), None),
+            None,
+            1,
+            "scanned 10 sectors\nunreadable 1: 3\naltered 0: none\n",
+        ),
+        (
+            20_480,
+            "scan disc.ecc --drive d",
+            (10, Some(3), None),
+            None,
+            1,
+            "scanned 10 sectors\nunreadable 1: 3\naltered 0: none\nfullest layer 0: 1 of 32\nlayers beyond 0\n",
+        ),
+        (
+            20_480,
+            "scan disc.ecc --drive d",
+            (10, None, Some(10_240)),
+            None,
+            1,
+            "scanned 10 sectors\nunreadable 0: none\naltered 1: 5\nfullest layer 0: 1 of 32\nlayers beyond 0\n",
+        ),
+        (
+            20_480,
+            "scan --drive d",
+            (10, None, Some(10_240)),
+            None,
+            0,
+            "scanned 10 sectors\nunreadable 0: none\naltered 0: none\n",
+        ),
+        (
+            20_480,
+            "scan disc.ecc --drive a --drive b",
+            (10, Some(3), None),
+            Some((10, None, Some(10_240))),
+            0,
+            "scanned 10 sectors\nunreadable 0: none\naltered 0: none\nfullest layer 0: 0 of 32\nlayers beyond 0\n",
+        ),
+        (
+            20_480,
+            "scan disc.ecc --drive a --drive b",
+            (10, Some(5), None),
+            Some((10, None, Some(10_240))),
+            1,
+            "scanned 10 sectors\nunreadable 0: none\naltered 1: 5\nfullest layer 0: 1 of 32\nlayers beyond 0\n",
+        ),
+        (
+            2049,
+            "scan disc.ecc --drive d",
+            (2, None, Some(2049)),
+            None,
+            0,
+            "scanned 2 sectors\nunreadable 0: none\naltered 0: none\nfullest layer 0: 0 of 32\nlayers beyond 0\n",
+        ),
+        (
+            2049,
+            "scan disc.ecc --drive d",
+            (2, None, Some(2048)),
+            None,
+            1,
+            "scanned 2 sectors\nunreadable 0: none\naltered 1: 1\nfullest layer 0: 1 of 32\nlayers beyond 0\n",
+        ),
+        (
+            20_480,
+            "scan disc.ecc --drive d",
+            (9, None, None),
+            None,
+            1,
+            "scanned 10 sectors\nunreadable 1: 9\naltered 0: none\nfullest layer 0: 1 of 32\nlayers beyond 0\n",
+        ),
+        (
+            20_480,
+            "scan --drive a --drive b",
+            (10, None, None),
+            Some((11, None, None)),
+            5,
+            "rs01: drives differ: 10 and 11 sectors\n",
+        ),
+        (
+            20_480,
+            "scan --drive d",
+            (0, None, None),
+            None,
+            5,
+            "rs01: the medium has 0 sectors\n",
+        ),
+        (
+            20_480,
+            "scan other.ecc --drive d",
+            (10, None, None),
+            None,
+            3,
+            "rs01: no error correction file\n",
+        ),
+    ];
+    for (bytes, line, first, second, status, want) in cases {
+        let one = drive(rt.alloc(), first.0, first.1, first.2)?;
+        let other = match second {
+            Some(second) => Some(drive(rt.alloc(), second.0, second.1, second.2)?),
+            None => None,
+        };
+        let mut rack = rack_of(rt.alloc(), one, other)?;
+        let ran = scans(rt.alloc(), bytes, line, &mut rack, want)?;
+        assert_eq!(rt; ran, (status, true), "{want}");
+    }
+    Ok(())
+}
+
+#[test]
+fn asks_of_a_scan(rt: HostRuntime) -> Result<(), Fail> {
+    let one = drive(rt.alloc(), 10, Some(3), None)?;
+    let other = drive(rt.alloc(), 10, Some(3), None)?;
+    let mut rack = rack_of(rt.alloc(), one, Some(other))?;
+    let want = "scanned 10 sectors\nunreadable 1: 3\naltered 0: none\n";
+    let ran = scans(rt.alloc(), 1, "scan --drive a --drive b", &mut rack, want)?;
+    assert_eq!(rt; ran, (1, true));
+    assert!(rt; rack.drives() == 2);
+    if rack.drives() == 2 {
+        for (i, asked) in [(0, Some(0)), (3, Some(3)), (9, Some(9)), (10, None)] {
+            assert_eq!(rt; rack.asked_at(0, i), asked);
+        }
+        assert_eq!(rt; (rack.asked_at(1, 0), rack.asked_at(1, 1)), (Some(3), None));
+    }
+    assert_eq!(rt; (rack.asks(), rack.faults()), (11, 2));
+    let mut faulty = drive(rt.alloc(), 10, None, None)?;
+    faulty.fail_sectors();
+    let mut rack = rack_of(rt.alloc(), faulty, None)?;
+    let want = "rs01: drive 0: size failed\n";
+    let ran = scans(rt.alloc(), 1, "scan --drive d", &mut rack, want)?;
+    assert_eq!(rt; ran, (5, true));
+    let mut rack = no_drives(rt.alloc())?;
+    let ran = scans(rt.alloc(), 1, "scan", &mut rack, "rs01: no drive\n")?;
+    assert_eq!(rt; ran, (5, true));
     Ok(())
 }
 

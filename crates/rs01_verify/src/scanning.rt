@@ -1,5 +1,5 @@
 //! Scanning a medium: each sector is asked for once.
-ghost use Rattle.std.specs.Prelude.{◌≡◌, ◌+◌, ◌++◌, ◌<◌, ◌≤◌, ℕ, IfOk, IsTrue, List, OnOk, length};
+ghost use Rattle.std.specs.Prelude.{◌≡◌, ◌+◌, ◌++◌, ◌<◌, ◌≤◌, ℕ, IfErr, IfOk, IsTrue, List, OnOk, length};
 ghost use Rattle.std.specs.Option.{ForSome, option_map};
 ghost use Rattle.rs01_layers.specs.Layout.{layers_of};
 ghost use Rattle.rs01_outside.specs.DeskState.{OnlyReads};
@@ -7,7 +7,7 @@ ghost use Rattle.rs01_outside.specs.DriveView.{DriveView};
 ghost use Rattle.rs01_rack.specs.Rack.{AllTell, views_of};
 ghost use Rattle.rs01_linear.specs.Medium.{Found, IsMedium};
 ghost use Rattle.rs01_linear.specs.Racks.{seen_by};
-ghost use Rattle.rs01_linear.specs.Refusal.{is_read_fault};
+ghost use Rattle.rs01_linear.specs.Refusal.{IsOfReading, is_read_fault};
 ghost use Rattle.rs01_verify.specs.Fullness.{fullest_of};
 ghost use Rattle.rs01_verify.specs.Scan.{IsScanOf, Scans, scan_report};
 ghost use Rattle.rs01_verify.specs.Scanned.{CountedFor, EndsAsking, IsBare, IsKept, Keeps, condition_from};
@@ -137,6 +137,7 @@ pub fn scan<D: Desk>(
     ensures reads { OnlyReads (D.state desk.old) (D.state desk.new) (is_read_fault result) }
     ensures asked { Scans result (seen_by ⟦<dyn Drive as Drive>⟧ rack.old)
         (seen_by ⟦<dyn Drive as Drive>⟧ rack.new) }
+    ensures causes { IfErr result IsOfReading }
     ensures answer { IsTrue (D.state desk.old).tells → AllTell (seen_by ⟦<dyn Drive as Drive>⟧ rack.new)
         → IsScanOf (option_map (λ name. (D.state desk.old).files name.now) ecc.entry)
         (views_of (seen_by ⟦<dyn Drive as Drive>⟧ rack.old))

@@ -1,0 +1,189 @@
+-- What holds of a run that scans a medium, by how the scan and the last text ended.
+use Rattle.std.proofs.Common.{◌≡◌, ◌&&◌, ◌==◌, ◌⊎◌, ℕ, List, [], refl, sym, subst, ap, ◌∙◌, inl, inr, arith, true, false, length, Bor}
+use Rattle.std.specs.Prelude.{IsTrue, IsOkAnd, Option, Some, None, Result, Ok, Err}
+use Rattle.std.specs.Option.{option_map}
+use Rattle.rs01_outside.proofs.States.{works-reads}
+use Rattle.rs01_outside.specs.DeskState.{OnlyReads}
+use Rattle.rs01_outside.specs.DriveView.{DriveView}
+use Rattle.rs01_outside.specs.Files.{Files}
+use Rattle.rs01_rack.specs.Rack.{AllTell, views_of}
+use Rattle.rs01_rack.specs.declared.refusal.RackRefusal.TheVariants as rack
+use Rattle.rs01_ecchead.specs.declared.opened.EccRefusal.{EccRefusal}
+use Rattle.rs01_ecchead.specs.declared.opened.EccRefusal.TheVariants as ecc
+use Rattle.rs01_linear.specs.Medium.{Found}
+use Rattle.rs01_linear.specs.Refusal.{IsOfMedium, IsOfReading, is_read_fault}
+use Rattle.rs01_linear.specs.declared.refusal.ReadRefusal.{ReadRefusal}
+use Rattle.rs01_linear.specs.declared.refusal.ReadRefusal.TheVariants.{DriveSize, Ecc, OutOfMemory, Rack, ReadFault, WriteFault}
+use Rattle.rs01_report.specs.declared.faults.Fault.{Fault}
+use Rattle.rs01_report.specs.declared.reports.ScanReport.{ScanReport}
+use Rattle.rs01_report.specs.Faults.{fault_line, status_of}
+use Rattle.rs01_report.specs.Texts.{scan_lines}
+use Rattle.rs01_verify.specs.Scan.{BreaksOff, IsScanOf, IsScanned, RefusesScan, Scans}
+use Rattle.rs01_top.specs.Faults.{ecc_fault, read_fault}
+use Rattle.rs01_top.specs.Outside.{Outside, World, outside_of}
+use Rattle.rs01_top.specs.Scan.{HasScanned, MayStandAfterScan, medium_in, scan_work, scanned_status}
+use Rattle.rs01_top.specs.Work.{fault_in}
+use Rattle.rs01_top.specs.Run.{Ends, IsKnown, IsRun, RaisedCount}
+use Rattle.rs01_top.proofs.Endings.{NotOfWords, done, out_of_memory, read_failed, refused, refused_by_drives, some_same, was_asked}
+use Rattle.rs01_top.proofs.HeadFaults.{head_is}
+use Rattle.rs01_top.proofs.Verifies.{none_or_one}
+
+scanned_range : (report : ScanReport) → (scanned_status report ≡ 0) ⊎ (scanned_status report ≡ 1)
+scanned_range report = none_or_one ((length report.unreadable == 0) && (length report.altered == 0)) (scanned_status report) refl
+
+ecc_not_words : (why : EccRefusal) → status_of (ecc_fault why) ≡ 2 → ⊥
+ecc_not_words ecc.NoFile e = omega arith
+ecc_not_words (ecc.Head why) e = omega (arith, head_is why, e)
+ecc_not_words (ecc.Size have want) e = omega arith
+ecc_not_words (ecc.Body have want) e = omega arith
+ecc_not_words ecc.ReadFault e = omega arith
+ecc_not_words ecc.OutOfMemory e = omega arith
+
+not_words : (why : ReadRefusal) → status_of (read_fault why) ≡ 2 → ⊥
+not_words (Ecc why) e = ecc_not_words why e
+not_words (Rack rack.NoDrive) e = omega arith
+not_words (Rack (rack.Failed drive)) e = omega arith
+not_words (Rack (rack.Differ first other)) e = omega arith
+not_words (DriveSize n) e = omega arith
+not_words ReadFault e = omega arith
+not_words WriteFault e = omega arith
+not_words OutOfMemory e = omega arith
+
+of_err : (r : Result Found ReadRefusal) (why : Fault) → fault_in read_fault r ≡ Some why → status_of why ≡ 2 → ⊥
+of_err (Ok medium) why e two = cc
+of_err (Err x) why e two = not_words x (ap status_of (some_same (read_fault x) why e) ∙ two)
+
+not_of_words : (name : Option (List ℕ)) → NotOfWords (scan_work name)
+not_of_words name found why e two = of_err (medium_in name found) why e two
+
+-- the file that may be named, by its name
+file_of : (files : Files) (name : Option (Bor (List ℕ))) → option_map (λ (n : Bor (List ℕ)). files n.now) name ≡ option_map files (option_map (λ (n : Bor (List ℕ)). n.now) name)
+file_of files None = refl
+file_of files (Some n) = refl
+
+not_refused : (P : Found → Type 0) (r : Result Found ReadRefusal) → IsOkAnd r P → fault_in read_fault r ≡ None
+not_refused P (Ok medium) p = refl
+not_refused P (Err why) p = absurd p
+
+told_of : (r : Result Found ReadRefusal) (old new : Outside) (report : ScanReport) → new.files ≡ old.files
+    → IsOkAnd r (IsScanned old.views new.views report) → IsOkAnd r (HasScanned old new (scan_lines report) (scanned_status report))
+told_of (Ok medium) old new report files p = record {
+  files = files;
+  views = p.views;
+  lines = ap scan_lines p.told;
+  number = ap scanned_status p.told;
+}
+told_of (Err why) old new report files p = absurd p
+
+all_asked : (r : Result Found ReadRefusal) (old new : List DriveView) (report : ScanReport) → IsOkAnd r (IsScanned old new report) → BreaksOff r old new
+all_asked (Ok medium) old new report p = (medium.known.sectors, omega arith, p.views)
+all_asked (Err why) old new report p = absurd p
+
+-- the medium was scanned
+scanned : (name : Option (List ℕ)) (old new : World) (report : ScanReport) (status : ℕ)
+    → OnlyReads old.desk new.desk false → Scans (Ok report) old.rack new.rack
+    → (IsTrue old.desk.tells → AllTell new.rack → IsScanOf (option_map old.desk.files name) (views_of old.rack) (views_of new.rack) (Ok report))
+    → Ends (scan_lines report) (scanned_status report) old.out new.out status
+    → IsRun (scan_work name) old new status
+scanned name old new report status reads scans answer ends =
+    let medium = medium_in name (outside_of old) in
+    done (scan_work name) [] old new (scan_lines report) (scanned_status report) status
+    (not_of_words name) (scanned_range report) (was_asked (scan_work name) old.rack new.rack refl scans.lasts) (works-reads [] old.desk new.desk false reads)
+    (λ d. not_refused _ medium (answer d.0 (d.1 refl)))
+    (λ d. told_of medium (outside_of old) (outside_of new) report (reads.unchanged d.0) (answer d.0 (d.1 refl)))
+    (λ d. record { files = reads.unchanged d.0; views = all_asked medium (views_of old.rack) (views_of new.rack) report (answer d.0 (d.1 refl)) })
+    ends
+
+-- what is known of a scan that was refused or broken off
+abbrev pub Refused : Option (List ℕ) → World → World → ReadRefusal → Type 0
+Refused name old new why = IsKnown (scan_work name) old new → RefusesScan (medium_in name (outside_of old)) (views_of old.rack) (views_of new.rack) why
+
+stands : (name : Option (List ℕ)) (old new : World) (why : ReadRefusal) → (IsTrue old.desk.tells → new.desk.files ≡ old.desk.files)
+    → Refused name old new why → IsKnown (scan_work name) old new → MayStandAfterScan name (outside_of old) (outside_of new)
+stands name old new why files is d = record { files = files d.0; views = (is d).left }
+
+first_of : (name : Option (List ℕ)) (old new : World) (why : ReadRefusal) → IsOfMedium why
+    → Refused name old new why → IsKnown (scan_work name) old new → (scan_work name).refusal (outside_of old) ≡ Some (read_fault why)
+first_of name old new why of is d = ap (λ (r : Result Found ReadRefusal). fault_in read_fault r) ((is d).first of)
+
+same_outside : (old new : Outside) → new.files ≡ old.files → new.views ≡ old.views → new ≡ old
+same_outside old new files views = λ i. record { files = files i; views = views i }
+
+unchanged : (name : Option (List ℕ)) (old new : World) (why : ReadRefusal) → IsOfMedium why → (IsTrue old.desk.tells → new.desk.files ≡ old.desk.files)
+    → Refused name old new why → IsKnown (scan_work name) old new → outside_of new ≡ outside_of old
+unchanged name old new why of files is d =
+    same_outside (outside_of old) (outside_of new) (files d.0)
+    (subst (λ (r : Result Found ReadRefusal). BreaksOff r (views_of old.rack) (views_of new.rack)) ((is d).first of) (is d).left)
+
+-- the file is refused
+of_file : (name : Option (List ℕ)) (old new : World) (why : EccRefusal) (status : ℕ)
+    → status_of (ecc_fault why) ≡ 3 → OnlyReads old.desk new.desk false → Scans (Err (Ecc why)) old.rack new.rack
+    → Refused name old new (Ecc why)
+    → Ends (fault_line (ecc_fault why)) (status_of (ecc_fault why)) old.out new.out status
+    → IsRun (scan_work name) old new status
+of_file name old new why status three reads scans is ends =
+    refused (scan_work name) [] old new (ecc_fault why) status (not_of_words name) three
+    (was_asked (scan_work name) old.rack new.rack refl scans.lasts) (works-reads [] old.desk new.desk false reads)
+    (first_of name old new (Ecc why) tt is) (unchanged name old new (Ecc why) tt reads.unchanged is) (stands name old new (Ecc why) reads.unchanged is) ends
+
+-- the drives are refused
+of_drives : (name : Option (List ℕ)) (old new : World) (why : ReadRefusal) (status : ℕ)
+    → IsOfMedium why → status_of (read_fault why) ≡ 5 → RaisedCount (read_fault why) old.rack new.rack
+    → OnlyReads old.desk new.desk false → Scans (Err why) old.rack new.rack
+    → Refused name old new why
+    → Ends (fault_line (read_fault why)) (status_of (read_fault why)) old.out new.out status
+    → IsRun (scan_work name) old new status
+of_drives name old new why status of five raised reads scans is ends =
+    refused_by_drives (scan_work name) [] old new (read_fault why) status (not_of_words name) refl five raised
+    (was_asked (scan_work name) old.rack new.rack refl scans.lasts) (works-reads [] old.desk new.desk false reads)
+    (first_of name old new why of is) (unchanged name old new why of reads.unchanged is) (stands name old new why reads.unchanged is) ends
+
+not_scanned : (name : Option (List ℕ)) (old new : World) (why : ReadRefusal) (status : ℕ)
+    → OnlyReads old.desk new.desk (is_read_fault {T = ScanReport} (Err why)) → Scans (Err why) old.rack new.rack → IsOfReading why
+    → Refused name old new why
+    → Ends (fault_line (read_fault why)) (status_of (read_fault why)) old.out new.out status
+    → IsRun (scan_work name) old new status
+not_scanned name old new (Ecc ecc.NoFile) status reads scans cause is ends = of_file name old new ecc.NoFile status refl reads scans is ends
+not_scanned name old new (Ecc (ecc.Head why)) status reads scans cause is ends = of_file name old new (ecc.Head why) status (head_is why) reads scans is ends
+not_scanned name old new (Ecc (ecc.Size have want)) status reads scans cause is ends = of_file name old new (ecc.Size have want) status refl reads scans is ends
+not_scanned name old new (Ecc (ecc.Body have want)) status reads scans cause is ends = of_file name old new (ecc.Body have want) status refl reads scans is ends
+not_scanned name old new (Ecc ecc.ReadFault) status reads scans cause is ends = absurd cause
+not_scanned name old new (Ecc ecc.OutOfMemory) status reads scans cause is ends = absurd cause
+not_scanned name old new (Rack rack.NoDrive) status reads scans cause is ends = of_drives name old new (Rack rack.NoDrive) status tt refl tt reads scans is ends
+not_scanned name old new (Rack (rack.Failed drive)) status reads scans cause is ends =
+    of_drives name old new (Rack (rack.Failed drive)) status tt refl scans.cause reads scans is ends
+not_scanned name old new (Rack (rack.Differ first other)) status reads scans cause is ends =
+    of_drives name old new (Rack (rack.Differ first other)) status tt refl tt reads scans is ends
+not_scanned name old new (DriveSize n) status reads scans cause is ends = of_drives name old new (DriveSize n) status tt refl tt reads scans is ends
+not_scanned name old new ReadFault status reads scans cause is ends =
+    read_failed (scan_work name) [] old new status (not_of_words name) (was_asked (scan_work name) old.rack new.rack refl scans.lasts)
+    (works-reads [] old.desk new.desk true reads) (stands name old new ReadFault reads.unchanged is) ends
+not_scanned name old new WriteFault status reads scans cause is ends = absurd cause
+not_scanned name old new OutOfMemory status reads scans cause is ends =
+    out_of_memory (scan_work name) [] old new status (not_of_words name) (was_asked (scan_work name) old.rack new.rack refl scans.lasts)
+    (works-reads [] old.desk new.desk false reads) (stands name old new OutOfMemory reads.unchanged is) ends
+
+-- the same, by the name as it is passed
+pub scanned_by : (name : Option (Bor (List ℕ))) (old new : World) (report : ScanReport) (status : ℕ)
+    → OnlyReads old.desk new.desk false → Scans (Ok report) old.rack new.rack
+    → (IsTrue old.desk.tells → AllTell new.rack
+    → IsScanOf (option_map (λ (n : Bor (List ℕ)). old.desk.files n.now) name) (views_of old.rack) (views_of new.rack) (Ok report))
+    → Ends (scan_lines report) (scanned_status report) old.out new.out status
+    → IsRun (scan_work (option_map (λ (n : Bor (List ℕ)). n.now) name)) old new status
+scanned_by name old new report status reads scans answer ends =
+    scanned (option_map (λ (n : Bor (List ℕ)). n.now) name) old new report status reads scans
+    (λ t all. subst (λ (file : Option (Option (List ℕ))). IsScanOf file (views_of old.rack) (views_of new.rack) (Ok report))
+    (file_of old.desk.files name) (answer t all))
+    ends
+
+pub not_scanned_by : (name : Option (Bor (List ℕ))) (old new : World) (why : ReadRefusal) (status : ℕ)
+    → OnlyReads old.desk new.desk (is_read_fault {T = ScanReport} (Err why)) → Scans (Err why) old.rack new.rack → IsOfReading why
+    → (IsTrue old.desk.tells → AllTell new.rack
+    → IsScanOf (option_map (λ (n : Bor (List ℕ)). old.desk.files n.now) name) (views_of old.rack) (views_of new.rack) (Err why))
+    → Ends (fault_line (read_fault why)) (status_of (read_fault why)) old.out new.out status
+    → IsRun (scan_work (option_map (λ (n : Bor (List ℕ)). n.now) name)) old new status
+not_scanned_by name old new why status reads scans cause answer ends =
+    not_scanned (option_map (λ (n : Bor (List ℕ)). n.now) name) old new why status reads scans cause
+    (λ d. subst (λ (file : Option (Option (List ℕ))). IsScanOf file (views_of old.rack) (views_of new.rack) (Err why))
+    (file_of old.desk.files name) (answer d.0 (d.1 refl)))
+    ends
