@@ -128,12 +128,14 @@ fn report(medium: &Medium, tally: Tally) -> ScanReport
 ///
 /// Where the desk tells its files and all drives tell in the end, report, asks and refusals are those of the definition,
 /// and after want of memory some first sectors were asked for. Each unreadable sector raised each drive's count of faults.
+/// Every rack meets the condition.
 pub fn scan<D: Desk>(
     alloc: Global,
     desk: &mut D,
     ecc: Option<&str>,
     rack: &mut Rack,
 ) -> Result<ScanReport, ReadRefusal>
+    requires few { length rack.old.drives.items ≤ 65536 }
     ensures reads { OnlyReads (D.state desk.old) (D.state desk.new) (is_read_fault result) }
     ensures asked { Scans result (seen_by ⟦<dyn Drive as Drive>⟧ rack.old)
         (seen_by ⟦<dyn Drive as Drive>⟧ rack.new) }
