@@ -21,8 +21,7 @@ use Rattle.rs01_linear.specs.declared.medium.Medium.{Medium}
 use Rattle.rs01_linear.proofs.LastingLemmas.{drive_there, lasts_then, rack_lasts, told_before}
 use Rattle.rs01_verify.specs.Scan.{AllRoseBy, asked_at, is_altered, is_lost, is_unreadable, scan_to}
 use Rattle.rs01_verify.specs.Scanned.{CountedFor, HasAsked, HasStopped, IsBare, IsKept, Keeps, condition_from, lost_below}
-use Rattle.rs01_verify.specs.Surveyed.{IsCounted}
-use Rattle.rs01_verify.specs.Tallied.{altered_part, counts_after, missing_part}
+use Rattle.rs01_verify.specs.Tallied.{altered_part, counts_after, IsCounted, missing_part}
 use Rattle.rs01_verify.specs.declared.tally.Tally.{Tally}
 use Rattle.rs01_verify.proofs.CountLemmas.{filter_range_more, count_range_more, raised}
 use Rattle.rs01_verify.proofs.SurveyLemmas.{length-zeros, zeros_at}

@@ -16,8 +16,7 @@ use Rattle.rs01_linear.specs.declared.asking.Asked.{Asked}
 use Rattle.rs01_linear.specs.declared.asking.Asked.TheVariants as asked
 use Rattle.rs01_linear.specs.declared.medium.Medium.{Medium}
 use Rattle.rs01_verify.specs.Scan.{AllRoseBy, asked_at, is_altered, is_lost, is_unreadable, scan_to}
-use Rattle.rs01_verify.specs.Surveyed.{IsCounted}
-use Rattle.rs01_verify.specs.Tallied.{altered_part, counts_after, missing_part}
+use Rattle.rs01_verify.specs.Tallied.{IsCounted, altered_part, counts_after, missing_part}
 use Rattle.rs01_verify.specs.declared.tally.Tally.{Tally}
 
 -- how a sector is found that was asked for: an unreadable one counts as missing

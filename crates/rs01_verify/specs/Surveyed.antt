@@ -1,5 +1,5 @@
 -- What is kept while the sectors of an image file are looked at in rising order.
-use Rattle.std.specs.Prelude.{ℕ, ◌≡◌, ◌≤◌, ◌*◌, ◌==◌, ◌&&◌, nat_lt, if◌then◌else◌, List, [], count_by, filter, length, map, min, replicate, slice_index, take}
+use Rattle.std.specs.Prelude.{ℕ, ◌≡◌, ◌≤◌, ◌*◌, ◌==◌, ◌&&◌, nat_lt, if◌then◌else◌, List, [], count_by, filter, length, map, min, replicate, take}
 use Rattle.std.specs.List.{range_with_len}
 use Rattle.md5.specs.Md5.{Holds}
 use Rattle.rs01_layers.specs.Layout.{layer_of, layers_of}
@@ -9,8 +9,8 @@ use Rattle.rs01_ecchead.specs.Shown.{Shown, shown_in}
 use Rattle.rs01_ecchead.specs.declared.opened.Ecc.{Ecc}
 use Rattle.rs01_report.specs.declared.reports.Mark.TheVariants.{Absent}
 use Rattle.rs01_verify.specs.Report.{fingerprint_mark}
+use Rattle.rs01_verify.specs.Tallied.{IsCounted}
 use Rattle.rs01_verify.specs.declared.survey.Survey.{Survey}
-use Rattle.rs01_verify.specs.declared.tally.Tally.{Tally}
 
 -- how many of the first n sectors are erased and lie in layer l
 abbrev pub erased_below : Opened → List ℕ → ℕ → ℕ → ℕ
@@ -35,12 +35,7 @@ abbrev pub SurveyedShown : Ecc → Shown → ℕ → Survey → Type 0
 SurveyedShown ecc image n survey =
     (y : List ℕ) → image ≡ shown_in y ecc.head.sectors ecc.head.last_bytes (length y) → SurveyedBy ecc y n survey
 
--- there is a count for each layer, and none is above n
-pub record IsCounted (layers n : ℕ) (tally : Tally) : Type 0 where
-  pub all : length tally.counts.items ≡ layers
-  pub bound : (l : ℕ) → slice_index tally.counts.items l ≤ n
-
--- the same of the layers that an error correction file has
+-- there is a count for each layer that an error correction file has, and none is above n
 abbrev pub CountedBy : Ecc → ℕ → Survey → Type 0
 CountedBy ecc n survey = IsCounted (layers_of ecc.head.sectors ecc.head.parity) n survey.tally
 

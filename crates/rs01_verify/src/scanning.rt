@@ -11,7 +11,6 @@ ghost use Rattle.rs01_linear.specs.Refusal.{IsOfReading, is_read_fault};
 ghost use Rattle.rs01_verify.specs.Fullness.{fullest_of};
 ghost use Rattle.rs01_verify.specs.Scan.{IsScanOf, Scans, scan_report};
 ghost use Rattle.rs01_verify.specs.Scanned.{CountedFor, EndsAsking, IsBare, IsKept, Keeps, condition_from};
-ghost use Rattle.rs01_verify.specs.Tallied.{altered_part, missing_part};
 
 use crate::fullest::fullest;
 use crate::tally::Tally;
@@ -43,21 +42,6 @@ fn bare_tally(alloc: Global, medium: &Medium) -> Result<Tally, AllocError>
     }
 }
 
-// Adds a sector as it was found to the lists alone.
-fn list(tally: &mut Tally, sector: u32, found: Condition) -> Result<(), AllocError>
-    ensures unreadable { OnOk result
-        (tally.new.missing.items ≡ tally.old.missing.items ++ missing_part found sector) }
-    ensures altered { OnOk result
-        (tally.new.altered.items ≡ tally.old.altered.items ++ altered_part found sector) }
-{
-    match found {
-        Condition::Sound => {}
-        Condition::Missing => tally.missing.push(sector)?,
-        Condition::Altered => tally.altered.push(sector)?,
-    }
-    Ok(())
-}
-
 // Adds a sector as it was found.
 fn keep(medium: &Medium, sector: u32, found: Condition, tally: &mut Tally) -> Result<(), AllocError>
     requires below { sector < medium.now.extent.sectors }
@@ -67,7 +51,7 @@ fn keep(medium: &Medium, sector: u32, found: Condition, tally: &mut Tally) -> Re
 {
     match medium.ecc() {
         Some(ecc) => tally.add(&ecc.shape(), sector, found),
-        None => list(tally, sector, found),
+        None => tally.list(sector, found),
     }
 }
 
@@ -103,7 +87,8 @@ fn report(medium: &Medium, tally: Tally) -> ScanReport
     requires { CountedFor medium.now medium.now.extent.sectors tally }
     ensures unreadable { result.unreadable ≡ tally.missing.items }
     ensures told { (file : _) (found : Found) (views now : List DriveView)
-        → IsMedium file medium.now found → IsKept medium.now views medium.now.extent.sectors now tally
+        → IsMedium file medium.now found
+        → IsKept medium.now views medium.now.extent.sectors now tally
         → result ≡ scan_report found views }
 {
     let Tally {
@@ -140,10 +125,10 @@ pub fn scan<D: Desk>(
     ensures asked { Scans result (seen_by ⟦<dyn Drive as Drive>⟧ rack.old)
         (seen_by ⟦<dyn Drive as Drive>⟧ rack.new) }
     ensures causes { IfErr result IsOfReading }
-    ensures answer { IsTrue (D.state desk.old).tells → AllTell (seen_by ⟦<dyn Drive as Drive>⟧ rack.new)
+    ensures answer { let drives = seen_by ⟦<dyn Drive as Drive>⟧ in
+        IsTrue (D.state desk.old).tells → AllTell (drives rack.new)
         → IsScanOf (option_map (λ name. (D.state desk.old).files name.now) ecc.entry)
-        (views_of (seen_by ⟦<dyn Drive as Drive>⟧ rack.old))
-        (views_of (seen_by ⟦<dyn Drive as Drive>⟧ rack.new)) result }
+        (views_of (drives rack.old)) (views_of (drives rack.new)) result }
 {
     let medium = open_medium(alloc, desk, ecc, rack)?;
     let tally = ask_all(alloc, &medium, rack)?;

@@ -1,7 +1,5 @@
 //! The sectors that were found erased.
-ghost use Rattle.std.specs.Prelude.{◌≡◌, ◌≤◌, ◌<◌, ◌^◌, ◌++◌, ◌∷◌, [], IfOk, List, ℕ, OnOk, length, replicate, slice_index};
-ghost use Rattle.rs01_layers.specs.Layout.{layer_of, layers_of};
-ghost use Rattle.rs01_verify.specs.Tallied.{altered_part, counts_after, missing_part};
+ghost use Rattle.std.specs.Prelude.{◌≡◌, ◌<◌, [], IfOk, OnOk, replicate};
 
 use rs01_ecchead::Condition;
 use rs01_layers::Shape;
@@ -14,6 +12,8 @@ pub struct Tally {
     pub altered: Vec<u32>,
     pub counts: Vec<u32>,
 }
+
+ghost use Rattle.rs01_verify.specs.Tallied.{Adds, IsCounted, Lists, layers_in};
 
 impl Tally {
     // No sector in so many layers.
@@ -30,25 +30,28 @@ impl Tally {
         })
     }
 
-    // Adds a sector as it was found.
-    pub fn add(&mut self, shape: &Shape, sector: u32, found: Condition) -> Result<(), AllocError>
-        requires sector { sector < shape.now.sectors }
-        requires layers { length self.old.counts.items
-            ≡ layers_of shape.now.sectors shape.now.parity }
-        requires room { (k : ℕ) → slice_index self.old.counts.items k ≤ sector }
-        ensures missing { OnOk result
-            (self.new.missing.items ≡ self.old.missing.items ++ missing_part found sector) }
-        ensures altered { OnOk result
-            (self.new.altered.items ≡ self.old.altered.items ++ altered_part found sector) }
-        ensures counts { let l = layer_of shape.now.sectors shape.now.parity sector in OnOk result
-            (self.new.counts.items ≡ counts_after found l self.old.counts.items) }
+    // Puts a sector into the list of what it was found as.
+    pub fn list(&mut self, sector: u32, found: Condition) -> Result<(), AllocError>
+        ensures { OnOk result (Lists sector found self.old self.new) }
     {
         match found {
-            Condition::Sound => return Ok(()),
+            Condition::Sound => {}
             Condition::Missing => self.missing.push(sector)?,
             Condition::Altered => self.altered.push(sector)?,
         }
-        self.counts[shape.layer_of(sector) as usize] += 1;
+        Ok(())
+    }
+
+    // Adds a sector as it was found.
+    pub fn add(&mut self, shape: &Shape, sector: u32, found: Condition) -> Result<(), AllocError>
+        requires sector { sector < shape.now.sectors }
+        requires counted { IsCounted (layers_in shape.now) sector self.old }
+        ensures { OnOk result (Adds shape.now sector found self.old self.new) }
+    {
+        self.list(sector, found)?;
+        if found != Condition::Sound {
+            self.counts[shape.layer_of(sector) as usize] += 1;
+        }
         Ok(())
     }
 }
