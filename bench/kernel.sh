@@ -9,7 +9,7 @@
 # made in a folder of its own, and the program is proved, built and run there. The first run takes some minutes, since
 # the crates below are proved first; what the toolchain finds proved on this machine it takes over. The copy is deleted
 # at the end, or kept as FOLDER/kernel_bench where a folder is named, so that the next run with it takes seconds.
-top=$(cd "$(dirname "$0")/.." && pwd) || exit 1
+top=$(cd "$(dirname "$0")/.." && pwd -P) || exit 1
 
 if ! command -v rt > /dev/null 2>&1; then
     echo "The toolchain's rt isn't on the path."
@@ -18,8 +18,8 @@ fi
 
 if [ -n "$1" ]; then
     mkdir -p "$1/kernel_bench" || exit 1
-    folder=$(cd "$1/kernel_bench" && pwd) || exit 1
-    if [ "$folder" -ef "$top" ]; then
+    folder=$(cd "$1/kernel_bench" && pwd -P) || exit 1
+    if [ "$folder" = "$top" ]; then
         echo "The copy would overwrite the repository: name another folder."
         exit 1
     fi
