@@ -1,5 +1,5 @@
 -- How far a reading has come after some sectors.
-use Rattle.std.proofs.Common.{◌≡◌, ℕ, ◌+◌, ◌≤◌, sym, subst, false, List, length}
+use Rattle.std.proofs.Common.{◌≡◌, ℕ, ◌+◌, ◌≤◌, ◌∙◌, sym, subst, false, List}
 use Rattle.std.specs.Prelude.{IsTrue, Option, Result, Err}
 use Rattle.rs01_outside.specs.DeskState.{DeskState, WorksOn}
 use Rattle.rs01_outside.specs.DriveView.{DriveView}
@@ -8,14 +8,21 @@ use Rattle.rs01_rack.specs.Rack.{AllTell, RackState}
 use Rattle.rs01_ecchead.specs.Erased.{Known}
 use Rattle.rs01_linear.specs.Course.{Manner}
 use Rattle.rs01_linear.specs.Lasting.{RackLasts}
-use Rattle.rs01_linear.specs.Standing.{Halted, Halts, PassesAll, Stands}
+use Rattle.rs01_linear.specs.Standing.{Halted, Halts, Keeps, PassesAll, Stands}
 use Rattle.rs01_linear.specs.declared.reading.Reading.{Reading}
 use Rattle.rs01_linear.proofs.LastingLemmas.{lasts_then, told_before}
 
+-- and one after another
+pub keeps_then : (one two three : Reading) (rack rack' rack'' : RackState) → Keeps one two rack rack' → Keeps two three rack' rack'' → Keeps one three rack rack''
+keeps_then one two three rack rack' rack'' first then = record {
+  lasts = lasts_then rack rack' rack'' first.lasts then.lasts;
+  all = then.all ∙ first.all;
+}
+
+-- what holds after the sectors below s
 pub record SoFar (known : Known) (manner : Manner) (name : List ℕ) (s : ℕ) (desk desk' : DeskState) (rack rack' : RackState) (reading reading' : Reading) : Type 0 where
-  pub all : length reading'.fates.items ≡ known.sectors
   pub works : WorksOn name desk desk' false false
-  pub lasts : RackLasts rack rack'
+  pub kept : Keeps reading reading' rack rack'
   pub told :
       (y : List ℕ) (views : List DriveView) → IsTrue desk.tells → AllTell rack' → Stands known manner y views 0 rack reading (desk.files name)
       → Stands known manner y views s rack' reading' (desk'.files name)
@@ -23,15 +30,14 @@ pub record SoFar (known : Known) (manner : Manner) (name : List ℕ) (s : ℕ) (
 -- one sector more
 pub so_far_more : (known : Known) (manner : Manner) (name : List ℕ) (s : ℕ) (desk desk' desk'' : DeskState) (rack rack' rack'' : RackState) (reading reading' reading'' : Reading)
     → SoFar known manner name s desk desk' rack rack' reading reading'
-    → length reading''.fates.items ≡ known.sectors → WorksOn name desk' desk'' false false → RackLasts rack' rack''
+    → WorksOn name desk' desk'' false false → Keeps reading' reading'' rack' rack''
     → ((y : List ℕ) (views : List DriveView) → IsTrue desk'.tells → AllTell rack'' → Stands known manner y views s rack' reading' (desk'.files name)
     → Stands known manner y views (s + 1) rack'' reading'' (desk''.files name))
     → SoFar known manner name (s + 1) desk desk'' rack rack'' reading reading''
-so_far_more known manner name s desk desk' desk'' rack rack' rack'' reading reading' reading'' so all works lasts step = record {
-  all = all;
+so_far_more known manner name s desk desk' desk'' rack rack' rack'' reading reading' reading'' so works kept step = record {
   works = works-then name desk desk' desk'' false false so.works works;
-  lasts = lasts_then rack rack' rack'' so.lasts lasts;
-  told = λ y views t tell st. step y views (subst IsTrue (sym so.works.tells) t) tell (so.told y views t (told_before rack' rack'' lasts tell) st);
+  kept = keeps_then reading reading' reading'' rack rack' rack'' so.kept kept;
+  told = λ y views t tell st. step y views (subst IsTrue (sym so.works.tells) t) tell (so.told y views t (told_before rack' rack'' kept.lasts tell) st);
 }
 
 -- the next one wasn't passed

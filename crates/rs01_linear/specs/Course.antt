@@ -1,5 +1,5 @@
 -- Reading the sectors of a medium in rising order into an image file y.
-use Rattle.std.specs.Prelude.{ℕ, zero, suc, ◌+◌, ◌++◌, nat_lt, if◌then◌else◌, List, [], ◌∷◌, is_some, take}
+use Rattle.std.specs.Prelude.{ℕ, zero, suc, ◌≤◌, ◌+◌, ◌++◌, nat_lt, if◌then◌else◌, List, [], ◌∷◌, is_some, take}
 use Rattle.std.specs.Option.{unwrap_or}
 use Rattle.rs01_layers.specs.Sectors.{length_of}
 use Rattle.rs01_sums.specs.Marker.{marker}
@@ -16,6 +16,13 @@ use Rattle.rs01_linear.specs.declared.fate.Fate.TheVariants.{Altered, Kept, Left
 pub record Manner : Type 0 where
   pub jump : ℕ
   pub tries : ℕ
+
+-- the manners that there are
+pub record IsManner (jump tries : ℕ) : Type 0 where
+  pub some_jump : 1 ≤ jump
+  pub most_jump : jump ≤ 1048576
+  pub some_tries : 1 ≤ tries
+  pub most_tries : tries ≤ 16
 
 -- how far a reading has come
 pub record Course : Type 0 where

@@ -1,10 +1,11 @@
 -- Reading a medium into an image: how the image file is got ready.
-use Rattle.std.specs.Prelude.{ℕ, ◌≡◌, ◌⊎◌, List, [], Option, Some, None, Result, Ok, Err, length}
+use Rattle.std.specs.Prelude.{ℕ, ◌≡◌, ◌⊎◌, IsTrue, List, [], Option, Some, None, Result, Ok, Err, length}
 use Rattle.std.specs.Option.{unwrap_or}
 use Rattle.rs01_linear.specs.Left.{first_fates, marked, mixed}
 use Rattle.rs01_linear.specs.Marking.{IsMixed, place}
 use Rattle.rs01_ecchead.specs.Erased.{Known}
-use Rattle.rs01_rack.specs.Rack.{RackState}
+use Rattle.rs01_outside.specs.DeskState.{DeskState}
+use Rattle.rs01_rack.specs.Rack.{AllTell, RackState}
 use Rattle.rs01_report.specs.declared.reports.ReadReport.{ReadReport}
 use Rattle.rs01_linear.specs.Course.{Manner}
 use Rattle.rs01_linear.specs.Outcome.{IsLeftAt, IsReadInto}
@@ -30,3 +31,9 @@ Prepares known old new (Err why) = (new ≡ old) ⊎ IsMixed (marked known (unwr
 abbrev pub ReadsPrepared : Known → Manner → Option (List ℕ) → (old new : RackState) → Option (List ℕ) → Result ReadReport ReadRefusal → Type 0
 ReadsPrepared known manner before old new file (Ok told) = IsReadInto known manner (unwrap_or before []) old new file told
 ReadsPrepared known manner before old new file (Err why) = IsLeftAt known manner (unwrap_or before []) old new before file
+
+-- the same where the desk and the drives tell, from whatever image file was got ready
+abbrev pub TellsPrepared : Known → Manner → List ℕ → Prepared → (desk desk' : DeskState) → Result ReadReport ReadRefusal → (old new : RackState) → Type 0
+TellsPrepared known manner name prepared desk desk' result old new =
+    (before : Option (List ℕ)) → IsTrue desk.tells → AllTell new → IsPrepared known before (desk.files name) prepared
+    → ReadsPrepared known manner before old new (desk'.files name) result

@@ -3,7 +3,9 @@ use Rattle.std.specs.Prelude.{ℕ, ◌≡◌, ◌*◌, ◌≤◌, ◌<◌, Bool,
 use Rattle.std.specs.Option.{option_map}
 use Rattle.rs01_outside.specs.DeskState.{DeskState}
 use Rattle.rs01_ecchead.specs.Erased.{Known, image_len}
-use Rattle.rs01_linear.specs.Left.{mixed}
+use Rattle.rs01_layers.specs.declared.extent.Extent.{Extent}
+use Rattle.rs01_linear.specs.Asking.{known_with}
+use Rattle.rs01_linear.specs.Left.{first_fates, marked, mixed}
 use Rattle.rs01_linear.specs.declared.fate.Fate.{Fate}
 use Rattle.rs01_linear.specs.declared.fate.Fate.TheVariants.{Altered, Kept, LeftOut, Read, Unreadable}
 
@@ -34,3 +36,10 @@ pub record IsRun (fates : List Fate) (first past : ℕ) : Type 0 where
   pub inside : past ≤ length fates
   pub all : (k : ℕ) → first ≤ k → k < past → option_map is_left_out (slice_get fates k) ≡ Some true
   pub none : past ≡ first → option_map is_left_out (slice_get fates first) ≡ Some false
+
+-- marking of the sectors that aren't good in the file y: below the first they had their markers, and now they do below
+-- where the answer says, and after a fault to some place
+abbrev pub Marks : {T E : Type 0} → Extent → List Fate → List ℕ → ℕ → (T → ℕ) → (old new : DeskState) → Result T E → Type 0
+Marks extent fates name first to old new result =
+    (sums : Option (List ℕ)) (y : List ℕ) → let known = known_with extent sums in
+    fates ≡ first_fates known y → Extends (marked known y) y name (place known first) (λ value. place known (to value)) old new result

@@ -1,6 +1,7 @@
 -- What is known of the medium in the drives before a sector is asked for.
-use Rattle.std.specs.Prelude.{ℕ, ◌≡◌, ◌==◌, ◌||◌, ◌<◌, ◌⊎◌, nat_lt, if◌then◌else◌, List, [], Option, Some, None, Result, Ok, Err, IsOkAnd, IsSomeAnd}
+use Rattle.std.specs.Prelude.{ℕ, ◌≡◌, ◌==◌, ◌||◌, ◌<◌, ◌⊎◌, nat_lt, if◌then◌else◌, List, [], Option, Some, None, Result, Ok, Err, IsOkAnd, IsSomeAnd, IsTrue}
 use Rattle.std.specs.Option.{option_map, unwrap_or}
+use Rattle.rs01_outside.specs.DeskState.{DeskState}
 use Rattle.rs01_outside.specs.DriveView.{DriveView}
 use Rattle.rs01_rack.specs.Counting.{GivesNumber, number_of}
 use Rattle.rs01_rack.specs.Rack.{AllTell, AtDrive, FaultsKept, FaultsRose, RackState, views_of}
@@ -59,6 +60,10 @@ pub record IsMedium (file : Option (Option (List ℕ))) (medium : Medium) (found
 abbrev pub IsFound : Option (Option (List ℕ)) → List DriveView → Result Medium ReadRefusal → Type 0
 IsFound file views (Ok medium) = IsOkAnd (found file views) (IsMedium file medium)
 IsFound file views (Err why) = IsOfMedium why → found file views ≡ Err why
+
+-- the same where the desk and the drives tell
+abbrev pub TellsFound : Option (Option (List ℕ)) → DeskState → Result Medium ReadRefusal → (old new : RackState) → Type 0
+TellsFound file desk answer old new = IsTrue desk.tells → AllTell new → IsFound file (views_of old) answer
 
 -- an error correction file that may be given is opened, or told why not
 abbrev pub OpensGiven : Option (Option (List ℕ)) → Result (Option Ecc) ReadRefusal → Type 0

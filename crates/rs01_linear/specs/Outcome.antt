@@ -1,8 +1,9 @@
 -- What a reading into a named image leaves and answers. The image file before is y, and none where it wasn't there.
-use Rattle.std.specs.Prelude.{ℕ, ◌≡◌, ◌≤◌, ◌⊎◌, ◌-◌, ◌^◌, List, [], Option, Some, Result, Ok, Err, IsOkAnd, IsSomeAnd, length, min}
+use Rattle.std.specs.Prelude.{ℕ, ◌≡◌, ◌≤◌, ◌⊎◌, ◌-◌, ◌^◌, List, [], Option, Some, Result, Ok, Err, IsOkAnd, IsSomeAnd, IsTrue, length, min}
 use Rattle.std.specs.Option.{unwrap_or}
+use Rattle.rs01_outside.specs.DeskState.{DeskState}
 use Rattle.rs01_rack.specs.Counting.{GivesNumber, HasCause}
-use Rattle.rs01_rack.specs.Rack.{RackState, views_of}
+use Rattle.rs01_rack.specs.Rack.{AllTell, RackState, views_of}
 use Rattle.rs01_ecchead.specs.Erased.{Known, image_len}
 use Rattle.rs01_report.specs.declared.reports.ReadReport.{ReadReport}
 use Rattle.rs01_linear.specs.Course.{Manner, read_to, whole_reading}
@@ -46,6 +47,11 @@ pub record IsUnread (given : Option (Option (List ℕ))) (manner : Manner) (old 
 abbrev pub Reads : Option (Option (List ℕ)) → Manner → (old new : RackState) → (before file : Option (List ℕ)) → Result ReadReport ReadRefusal → Type 0
 Reads given manner old new before file (Ok told) = IsOkAnd (found given (views_of old)) (λ f. IsReadInto f.known manner (unwrap_or before []) old new file told)
 Reads given manner old new before file (Err why) = IsUnread given manner old new before file why
+
+-- the same of a reading into the named image, and only there where both tell
+abbrev pub TellsReading : Option (Option (List ℕ)) → Manner → List ℕ → (desk desk' : DeskState) → Result ReadReport ReadRefusal → (old new : RackState) → Type 0
+TellsReading given manner name desk desk' result old new =
+    IsTrue desk.tells → AllTell new → Reads given manner old new (desk.files name) (desk'.files name) result
 
 -- a refusal of the drives, whether they tell or not: what they gave, and with which cause
 abbrev pub RefusesBy : {T : Type 0} → Result T ReadRefusal → RackState → RackState → Type 0

@@ -1,5 +1,6 @@
 -- Why a medium wasn't read.
-use Rattle.std.specs.Prelude.{Bool, false, true, Result, Ok, Err}
+use Rattle.std.specs.Prelude.{Bool, false, true, IfErr, List, Result, Ok, Err, ℕ}
+use Rattle.rs01_outside.specs.DeskState.{DeskState, WorksOn}
 use Rattle.rs01_ecchead.specs.Opened.{IsOfFile}
 use Rattle.rs01_ecchead.specs.declared.opened.EccRefusal.{EccRefusal}
 use Rattle.rs01_ecchead.specs.declared.opened.EccRefusal.TheVariants as ecc
@@ -82,3 +83,21 @@ IsOfReading (DriveSize n) = Unit {0}
 IsOfReading ReadFault = Unit {0}
 IsOfReading WriteFault = ⊥
 IsOfReading OutOfMemory = Unit {0}
+
+-- a refusal that comes from writing a file or from want of memory
+abbrev pub IsOfWriting : ReadRefusal → Type 0
+IsOfWriting (Ecc why) = ⊥
+IsOfWriting (Rack why) = ⊥
+IsOfWriting (DriveSize n) = ⊥
+IsOfWriting ReadFault = ⊥
+IsOfWriting WriteFault = Unit {0}
+IsOfWriting OutOfMemory = Unit {0}
+
+-- work on the named file, where a fault of reading or writing that is told has raised the desk's count of its kind
+abbrev pub WorksBy : {T : Type 0} → List ℕ → (old new : DeskState) → Result T ReadRefusal → Type 0
+WorksBy name old new result = WorksOn name old new (is_read_fault result) (is_write_fault result)
+
+-- work that writes the named file and reads none: it ends with a fault only of writing, or with want of memory
+pub record Writes {T : Type 0} (name : List ℕ) (old new : DeskState) (result : Result T ReadRefusal) : Type 0 where
+  pub works : WorksOn name old new false (is_write_fault result)
+  pub causes : IfErr result IsOfWriting

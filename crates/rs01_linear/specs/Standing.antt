@@ -1,9 +1,11 @@
 -- How far a reading into an image file y has come.
-use Rattle.std.specs.Prelude.{ℕ, ◌≡◌, ◌≤◌, ◌++◌, ◌+◌, List, Option, Some, Result, Ok, Err, drop}
+use Rattle.std.specs.Prelude.{ℕ, ◌≡◌, ◌≤◌, ◌++◌, ◌+◌, IsTrue, List, Option, Some, Result, Ok, Err, drop, length}
+use Rattle.rs01_outside.specs.DeskState.{DeskState}
 use Rattle.rs01_outside.specs.DriveView.{DriveView}
-use Rattle.rs01_rack.specs.Rack.{RackState, views_of}
+use Rattle.rs01_rack.specs.Rack.{AllTell, RackState, views_of}
 use Rattle.rs01_ecchead.specs.Erased.{Known}
 use Rattle.rs01_linear.specs.Course.{Manner, read_to}
+use Rattle.rs01_linear.specs.Lasting.{RackLasts}
 use Rattle.rs01_linear.specs.Left.{first_fates, image_left, marked, mixed}
 use Rattle.rs01_linear.specs.Marking.{IsMixed, place}
 use Rattle.rs01_linear.specs.declared.reading.Reading.{Reading}
@@ -36,3 +38,20 @@ pub record Halted (known : Known) (manner : Manner) (y : List ℕ) (views : List
 abbrev pub PassesAll : {T E : Type 0} → Known → Manner → List ℕ → List DriveView → RackState → Reading → Option (List ℕ) → Result T E → Type 0
 PassesAll known manner y views rack reading file (Ok value) = Stands known manner y views known.sectors rack reading file
 PassesAll known manner y views rack reading file (Err why) = Halted known manner y views rack file
+
+-- how passing sector s ends, where the desk and the drives tell, from wherever the reading stood
+abbrev pub TellsPass : {T E : Type 0} → Known → ℕ → Manner → List ℕ → (desk desk' : DeskState) → (was is : Reading) → Result T E → (old new : RackState) → Type 0
+TellsPass known s manner name desk desk' was is result old new =
+    (y : List ℕ) (views : List DriveView) → IsTrue desk.tells → AllTell new → Stands known manner y views s old was (desk.files name)
+    → Passes known manner y views s new is (desk'.files name) result
+
+-- the same of passing all sectors, from the first one on
+abbrev pub TellsPasses : {T E : Type 0} → Known → Manner → List ℕ → (desk desk' : DeskState) → (was is : Reading) → Result T E → (old new : RackState) → Type 0
+TellsPasses known manner name desk desk' was is result old new =
+    (y : List ℕ) (views : List DriveView) → IsTrue desk.tells → AllTell new → Stands known manner y views 0 old was (desk.files name)
+    → PassesAll known manner y views new is (desk'.files name) result
+
+-- what passing sectors keeps, whatever is told: the drives, and what became of each sector
+pub record Keeps (was is : Reading) (old new : RackState) : Type 0 where
+  pub lasts : RackLasts old new
+  pub all : length is.fates.items ≡ length was.fates.items

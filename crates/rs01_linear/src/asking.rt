@@ -4,7 +4,7 @@ ghost use Rattle.std.specs.Option.{ForSome, option_map};
 ghost use Rattle.rs01_lists.specs.Bytes.{padded};
 ghost use Rattle.rs01_rack.specs.Rack.{AllRose};
 ghost use Rattle.rs01_linear.specs.Asking.{Asks, known_with};
-ghost use Rattle.rs01_linear.specs.Racks.{seen_by};
+ghost use Rattle.rs01_linear.specs.Racks.{OnRack};
 
 use rs01_layers::Extent;
 use rs01_outside::Drive;
@@ -50,13 +50,11 @@ pub fn ask_sector(
     requires inside { sector < extent.now.sectors }
     requires recorded { ForSome sums (λ kept. sector < length kept.now.list) }
     requires some { 1 ≤ tries }
-    ensures asked { let known = known_with extent.now (option_map (λ kept. kept.now.list) sums.entry) in
-        Asks known sector tries into.new result
-        (seen_by ⟦<dyn Drive as Drive>⟧ rack.old)
-        (seen_by ⟦<dyn Drive as Drive>⟧ rack.new) }
-    ensures cause { result ≡ Unreadable → AllRose 0
-        (seen_by ⟦<dyn Drive as Drive>⟧ rack.old)
-        (seen_by ⟦<dyn Drive as Drive>⟧ rack.new) }
+    ensures asked { let sums = option_map (λ kept. kept.now.list) sums.entry in
+        let asks = Asks (known_with extent.now sums) sector tries into.new result in
+        OnRack ⟦<dyn Drive as Drive>⟧ asks rack.old rack.new }
+    ensures cause { result ≡ Unreadable
+        → OnRack ⟦<dyn Drive as Drive>⟧ (AllRose 0) rack.old rack.new }
 {
     let mut first = 0;
     let mut answered = false;

@@ -1,15 +1,13 @@
 //! Reading a medium into an image, in rising order.
-ghost use Rattle.std.specs.Prelude.{◌≡◌, ◌≢◌, ◌≤◌, ◌-◌, ◌^◌, IfErr, IsTrue, List, Option, length, min, ℕ};
+ghost use Rattle.std.specs.Prelude.{◌≡◌, ◌≢◌, ◌≤◌, ◌-◌, ◌^◌, IfErr, length, min};
 ghost use Rattle.std.specs.Option.{ForSome, option_map};
-ghost use Rattle.rs01_outside.specs.DeskState.{WorksOn};
-ghost use Rattle.rs01_rack.specs.Rack.{AllTell};
-ghost use Rattle.rs01_linear.specs.Course.{Manner};
+ghost use Rattle.rs01_linear.specs.Course.{IsManner};
 ghost use Rattle.rs01_linear.specs.Lasting.{RackLasts};
-ghost use Rattle.rs01_linear.specs.Linear.{IsPrepared, ReadsPrepared};
+ghost use Rattle.rs01_linear.specs.Linear.{TellsPrepared};
 ghost use Rattle.rs01_linear.specs.Medium.{known_of};
-ghost use Rattle.rs01_linear.specs.Outcome.{Reads, RefusesBy};
-ghost use Rattle.rs01_linear.specs.Racks.{seen_by};
-ghost use Rattle.rs01_linear.specs.Refusal.{IsOfWork, is_read_fault, is_write_fault};
+ghost use Rattle.rs01_linear.specs.Outcome.{RefusesBy, TellsReading};
+ghost use Rattle.rs01_linear.specs.Racks.{OnRack, seen_by};
+ghost use Rattle.rs01_linear.specs.Refusal.{IsOfWork, WorksBy};
 
 use crate::medium::Medium;
 use crate::opening::open_medium;
@@ -43,20 +41,13 @@ fn read_prepared<D: Desk>(
     prepared: Prepared,
 ) -> Result<ReadReport, ReadRefusal>
     requires all { length prepared.fates.items ≡ medium.now.extent.sectors }
-    requires jump { jump ≤ 1048576 }
-    requires tries { 1 ≤ tries }
-    ensures works { WorksOn name.now (D.state desk.old) (D.state desk.new)
-        (is_read_fault result) (is_write_fault result) }
+    requires manner { IsManner jump tries }
+    ensures works { WorksBy name.now (D.state desk.old) (D.state desk.new) result }
     ensures causes { IfErr result IsOfWork }
-    ensures lasts { RackLasts (seen_by ⟦<dyn Drive as Drive>⟧ rack.old)
-        (seen_by ⟦<dyn Drive as Drive>⟧ rack.new) }
-    ensures told { (before : Option (List ℕ)) → IsTrue (D.state desk.old).tells
-        → AllTell (seen_by ⟦<dyn Drive as Drive>⟧ rack.new)
-        → let manner : Manner = record { jump = jump; tries = tries } in
-        IsPrepared (known_of medium.now) before ((D.state desk.old).files name.now) prepared
-        → ReadsPrepared (known_of medium.now) manner before
-        (seen_by ⟦<dyn Drive as Drive>⟧ rack.old) (seen_by ⟦<dyn Drive as Drive>⟧ rack.new)
-        ((D.state desk.new).files name.now) result }
+    ensures lasts { OnRack ⟦<dyn Drive as Drive>⟧ RackLasts rack.old rack.new }
+    ensures told { OnRack ⟦<dyn Drive as Drive>⟧ (TellsPrepared (known_of medium.now)
+        (record { jump = jump; tries = tries }) name.now prepared (D.state desk.old)
+        (D.state desk.new) result) rack.old rack.new }
 {
     let asks = rack.asks();
     let mut reading = Reading {
@@ -89,19 +80,13 @@ pub fn read_linear<D: Desk>(
     tries: u32,
 ) -> Result<ReadReport, ReadRefusal>
     requires names { ForSome ecc (λ name. image.now ≢ name.now) }
-    requires jump { (1 ≤ jump) × (jump ≤ 1048576) }
-    requires tries { (1 ≤ tries) × (tries ≤ 16) }
-    ensures works { WorksOn image.now (D.state desk.old) (D.state desk.new)
-        (is_read_fault result) (is_write_fault result) }
-    ensures lasts { RackLasts (seen_by ⟦<dyn Drive as Drive>⟧ rack.old)
-        (seen_by ⟦<dyn Drive as Drive>⟧ rack.new) }
-    ensures refused { RefusesBy result (seen_by ⟦<dyn Drive as Drive>⟧ rack.old)
-        (seen_by ⟦<dyn Drive as Drive>⟧ rack.new) }
-    ensures told { IsTrue (D.state desk.old).tells → AllTell (seen_by ⟦<dyn Drive as Drive>⟧ rack.new)
-        → Reads (option_map (λ name. (D.state desk.old).files name.now) ecc.entry)
-        (record { jump = jump; tries = tries }) (seen_by ⟦<dyn Drive as Drive>⟧ rack.old)
-        (seen_by ⟦<dyn Drive as Drive>⟧ rack.new) ((D.state desk.old).files image.now)
-        ((D.state desk.new).files image.now) result }
+    requires manner { IsManner jump tries }
+    ensures works { WorksBy image.now (D.state desk.old) (D.state desk.new) result }
+    ensures lasts { OnRack ⟦<dyn Drive as Drive>⟧ RackLasts rack.old rack.new }
+    ensures refused { OnRack ⟦<dyn Drive as Drive>⟧ (RefusesBy result) rack.old rack.new }
+    ensures told { let given = option_map (λ name. (D.state desk.old).files name.now) ecc.entry in
+        OnRack ⟦<dyn Drive as Drive>⟧ (TellsReading given (record { jump = jump; tries = tries })
+        image.now (D.state desk.old) (D.state desk.new) result) rack.old rack.new }
 {
     let medium = open_medium(alloc, desk, ecc, rack)?;
     let prepared = prepare(alloc, desk, image, &medium)?;

@@ -1,13 +1,10 @@
 //! Putting the markers of all sectors that aren't good, before anything is asked for.
-ghost use Rattle.std.specs.Prelude.{◌≡◌, ◌≢◌, ◌+◌, ◌-◌, ◌*◌, ◌<◌, ◌≤◌, ◌++◌, IfErr, IfOk, List, OnOk, false, length, take, ℕ, Option};
+ghost use Rattle.std.specs.Prelude.{◌≡◌, ◌-◌, ◌<◌, ◌≤◌, ◌++◌, IfOk, OnOk, length, take};
 ghost use Rattle.std.specs.List.{flat_map, range_with_len};
 ghost use Rattle.rs01_layers.specs.Sectors.{length_of};
 ghost use Rattle.rs01_sums.specs.Marker.{marker};
-ghost use Rattle.rs01_outside.specs.DeskState.{WorksOn};
-ghost use Rattle.rs01_linear.specs.Asking.{known_with};
-ghost use Rattle.rs01_linear.specs.Left.{first_fates, marked};
-ghost use Rattle.rs01_linear.specs.Marking.{Extends, IsRun, is_left_out, place};
-ghost use Rattle.rs01_linear.specs.Refusal.{IsOfWork, is_read_fault, is_write_fault};
+ghost use Rattle.rs01_linear.specs.Marking.{IsRun, Marks, is_left_out};
+ghost use Rattle.rs01_linear.specs.Refusal.{Writes};
 
 use crate::fate::Fate;
 use crate::refusal::ReadRefusal;
@@ -90,15 +87,9 @@ fn mark_run<D: Desk>(
 ) -> Result<u32, ReadRefusal>
     requires first { first < extent.now.sectors }
     requires all { length fates.now ≡ extent.now.sectors }
-    ensures more { IfOk result (λ past. first + 1 ≤ past) }
-    ensures inside { IfOk result (λ past. past ≤ extent.now.sectors) }
-    ensures works { WorksOn name.now (D.state desk.old) (D.state desk.new) false
-        (is_write_fault result) }
-    ensures no_read { is_read_fault result ≡ false }
-    ensures causes { IfErr result IsOfWork }
-    ensures marked { (sums : Option (List ℕ)) (y : List ℕ) → let known = known_with extent.now sums in
-        fates.now ≡ first_fates known y
-        → Extends (marked known y) y name.now (place known first) (place known)
+    ensures past { IfOk result (λ past. (first < past) × (past ≤ extent.now.sectors)) }
+    ensures writes { Writes name.now (D.state desk.old) (D.state desk.new) result }
+    ensures marked { Marks extent.now fates.now name.now first (λ past. past)
         (D.state desk.old) (D.state desk.new) result }
 {
     let past = run_end(fates, extent.sectors, first);
@@ -121,13 +112,8 @@ pub fn put_markers<D: Desk>(
     fates: &[Fate],
 ) -> Result<(), ReadRefusal>
     requires all { length fates.now ≡ extent.now.sectors }
-    ensures works { WorksOn name.now (D.state desk.old) (D.state desk.new) false
-        (is_write_fault result) }
-    ensures no_read { is_read_fault result ≡ false }
-    ensures causes { IfErr result IsOfWork }
-    ensures marked { (sums : Option (List ℕ)) (y : List ℕ) → let known = known_with extent.now sums in
-        fates.now ≡ first_fates known y
-        → Extends (marked known y) y name.now 0 (λ _. place known extent.now.sectors)
+    ensures writes { Writes name.now (D.state desk.old) (D.state desk.new) result }
+    ensures marked { Marks extent.now fates.now name.now 0 (λ _. extent.now.sectors)
         (D.state desk.old) (D.state desk.new) result }
 {
     let mut bytes = Vec::with_capacity(alloc, 2048 * RUN as usize)?;

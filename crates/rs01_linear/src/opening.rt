@@ -2,9 +2,8 @@
 ghost use Rattle.std.specs.Prelude.{◌≡◌, ◌≤◌, IfErr, IsTrue, false, length};
 ghost use Rattle.std.specs.Option.{option_map};
 ghost use Rattle.rs01_outside.specs.DeskState.{OnlyReads};
-ghost use Rattle.rs01_rack.specs.Rack.{AllTell, views_of};
-ghost use Rattle.rs01_linear.specs.Medium.{Finds, IsFound, MakesMedium, OpensGiven};
-ghost use Rattle.rs01_linear.specs.Racks.{seen_by};
+ghost use Rattle.rs01_linear.specs.Medium.{Finds, MakesMedium, OpensGiven, TellsFound};
+ghost use Rattle.rs01_linear.specs.Racks.{OnRack};
 ghost use Rattle.rs01_linear.specs.Refusal.{IsOfOpening, IsOfReading, is_read_fault, is_write_fault};
 
 use crate::medium::Medium;
@@ -70,11 +69,10 @@ pub fn open_medium<D: Desk>(
     requires few { length rack.old.drives.items ≤ 65536 }
     ensures reads { OnlyReads (D.state desk.old) (D.state desk.new) (is_read_fault result) }
     ensures no_write { is_write_fault result ≡ false }
-    ensures asked { Finds result (seen_by ⟦<dyn Drive as Drive>⟧ rack.old)
-        (seen_by ⟦<dyn Drive as Drive>⟧ rack.new) }
-    ensures told { IsTrue (D.state desk.old).tells → AllTell (seen_by ⟦<dyn Drive as Drive>⟧ rack.new)
-        → IsFound (option_map (λ name. (D.state desk.old).files name.now) ecc.entry)
-        (views_of (seen_by ⟦<dyn Drive as Drive>⟧ rack.old)) result }
+    ensures asked { OnRack ⟦<dyn Drive as Drive>⟧ (Finds result) rack.old rack.new }
+    ensures told { let given = option_map (λ name. (D.state desk.old).files name.now) ecc.entry in
+        let finds = TellsFound given (D.state desk.old) result in
+        OnRack ⟦<dyn Drive as Drive>⟧ finds rack.old rack.new }
     ensures causes { IfErr result IsOfReading }
 {
     let opened = open_given(alloc, desk, ecc)?;

@@ -1,8 +1,7 @@
 //! Getting an image file ready, before a sector is asked for.
 ghost use Rattle.std.specs.Prelude.{◌≡◌, IfErr, IfOk, IsTrue, length};
-ghost use Rattle.rs01_outside.specs.DeskState.{WorksOn};
 ghost use Rattle.rs01_linear.specs.Medium.{known_of};
-ghost use Rattle.rs01_linear.specs.Refusal.{IsOfWork, is_read_fault, is_write_fault};
+ghost use Rattle.rs01_linear.specs.Refusal.{IsOfWork, WorksBy};
 
 use crate::fate::Fate;
 use crate::judging::judge_image;
@@ -23,8 +22,7 @@ ghost use Rattle.rs01_linear.specs.Linear.{Prepares, Starts};
 
 // How many bytes the image file has. Where it isn't there it is made.
 fn start_image<D: Desk>(desk: &mut D, name: &str) -> Result<u64, ReadRefusal>
-    ensures works { WorksOn name.now (D.state desk.old) (D.state desk.new)
-        (is_read_fault result) (is_write_fault result) }
+    ensures works { WorksBy name.now (D.state desk.old) (D.state desk.new) result }
     ensures causes { IfErr result IsOfWork }
     ensures started { IsTrue (D.state desk.old).tells
         → Starts ((D.state desk.old).files name.now) ((D.state desk.new).files name.now) result }
@@ -46,8 +44,7 @@ pub fn prepare<D: Desk>(
     name: &str,
     medium: &Medium,
 ) -> Result<Prepared, ReadRefusal>
-    ensures works { WorksOn name.now (D.state desk.old) (D.state desk.new)
-        (is_read_fault result) (is_write_fault result) }
+    ensures works { WorksBy name.now (D.state desk.old) (D.state desk.new) result }
     ensures causes { IfErr result IsOfWork }
     ensures all { IfOk result (λ prepared. length prepared.fates.items
         ≡ medium.now.extent.sectors) }

@@ -1,12 +1,8 @@
 //! Passing the sectors of a medium in rising order.
-ghost use Rattle.std.specs.Prelude.{◌≡◌, ◌<◌, ◌≤◌, IfErr, IsTrue, List, false, length, ℕ};
-ghost use Rattle.rs01_outside.specs.DeskState.{WorksOn};
-ghost use Rattle.rs01_outside.specs.DriveView.{DriveView};
-ghost use Rattle.rs01_rack.specs.Rack.{AllTell};
-ghost use Rattle.rs01_linear.specs.Racks.{seen_by};
-ghost use Rattle.rs01_linear.specs.Lasting.{RackLasts};
-ghost use Rattle.rs01_linear.specs.Refusal.{IsOfWork, is_read_fault, is_write_fault};
-ghost use Rattle.rs01_linear.specs.Course.{Manner, fate_of};
+ghost use Rattle.std.specs.Prelude.{◌≡◌, ◌<◌, length};
+ghost use Rattle.rs01_linear.specs.Racks.{OnRack};
+ghost use Rattle.rs01_linear.specs.Refusal.{Writes};
+ghost use Rattle.rs01_linear.specs.Course.{IsManner, fate_of};
 ghost use Rattle.rs01_linear.specs.Medium.{known_of};
 
 use crate::asking::{Asked, ask_sector};
@@ -24,7 +20,7 @@ pub struct Reading {
     pub fates: Vec<Fate>,
 }
 
-ghost use Rattle.rs01_linear.specs.Standing.{Passes, PassesAll, Stands};
+ghost use Rattle.rs01_linear.specs.Standing.{Keeps, TellsPass, TellsPasses};
 
 // What becomes of a sector that was asked for.
 fn fate_of(asked: Asked) -> Fate
@@ -51,22 +47,12 @@ fn pass_sector<D: Desk>(
 ) -> Result<(), ReadRefusal>
     requires sector { sector < medium.now.extent.sectors }
     requires all { length reading.old.fates.items ≡ medium.now.extent.sectors }
-    requires jump { jump ≤ 1048576 }
-    requires tries { 1 ≤ tries }
-    ensures all { length reading.new.fates.items ≡ medium.now.extent.sectors }
-    ensures works { WorksOn name.now (D.state desk.old) (D.state desk.new) false
-        (is_write_fault result) }
-    ensures no_read { is_read_fault result ≡ false }
-    ensures causes { IfErr result IsOfWork }
-    ensures lasts { RackLasts (seen_by ⟦<dyn Drive as Drive>⟧ rack.old)
-        (seen_by ⟦<dyn Drive as Drive>⟧ rack.new) }
-    ensures told { (y : List ℕ) (views : List DriveView) → IsTrue (D.state desk.old).tells
-        → AllTell (seen_by ⟦<dyn Drive as Drive>⟧ rack.new)
-        → let manner : Manner = record { jump = jump; tries = tries } in
-        Stands (known_of medium.now) manner y views sector (seen_by ⟦<dyn Drive as Drive>⟧ rack.old)
-        reading.old ((D.state desk.old).files name.now)
-        → Passes (known_of medium.now) manner y views sector (seen_by ⟦<dyn Drive as Drive>⟧ rack.new)
-        reading.new ((D.state desk.new).files name.now) result }
+    requires manner { IsManner jump tries }
+    ensures writes { Writes name.now (D.state desk.old) (D.state desk.new) result }
+    ensures kept { OnRack ⟦<dyn Drive as Drive>⟧ (Keeps reading.old reading.new) rack.old rack.new }
+    ensures told { OnRack ⟦<dyn Drive as Drive>⟧ (TellsPass (known_of medium.now) sector
+        (record { jump = jump; tries = tries }) name.now (D.state desk.old) (D.state desk.new)
+        reading.old reading.new result) rack.old rack.new }
 {
     if !is_left_out(reading.fates[sector as usize]) {
         return Ok(());
@@ -114,22 +100,12 @@ pub fn read_sectors<D: Desk>(
     reading: &mut Reading,
 ) -> Result<(), ReadRefusal>
     requires all { length reading.old.fates.items ≡ medium.now.extent.sectors }
-    requires jump { jump ≤ 1048576 }
-    requires tries { 1 ≤ tries }
-    ensures all { length reading.new.fates.items ≡ medium.now.extent.sectors }
-    ensures works { WorksOn name.now (D.state desk.old) (D.state desk.new) false
-        (is_write_fault result) }
-    ensures no_read { is_read_fault result ≡ false }
-    ensures causes { IfErr result IsOfWork }
-    ensures lasts { RackLasts (seen_by ⟦<dyn Drive as Drive>⟧ rack.old)
-        (seen_by ⟦<dyn Drive as Drive>⟧ rack.new) }
-    ensures told { (y : List ℕ) (views : List DriveView) → IsTrue (D.state desk.old).tells
-        → AllTell (seen_by ⟦<dyn Drive as Drive>⟧ rack.new)
-        → let manner : Manner = record { jump = jump; tries = tries } in
-        Stands (known_of medium.now) manner y views 0 (seen_by ⟦<dyn Drive as Drive>⟧ rack.old)
-        reading.old ((D.state desk.old).files name.now)
-        → PassesAll (known_of medium.now) manner y views (seen_by ⟦<dyn Drive as Drive>⟧ rack.new)
-        reading.new ((D.state desk.new).files name.now) result }
+    requires manner { IsManner jump tries }
+    ensures writes { Writes name.now (D.state desk.old) (D.state desk.new) result }
+    ensures kept { OnRack ⟦<dyn Drive as Drive>⟧ (Keeps reading.old reading.new) rack.old rack.new }
+    ensures told { OnRack ⟦<dyn Drive as Drive>⟧ (TellsPasses (known_of medium.now)
+        (record { jump = jump; tries = tries }) name.now (D.state desk.old) (D.state desk.new)
+        reading.old reading.new result) rack.old rack.new }
 {
     for sector in 0..medium.extent.sectors {
         pass_sector(rack, desk, name, medium, jump, tries, sector, reading)?;
