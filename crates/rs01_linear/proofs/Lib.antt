@@ -13,3 +13,4 @@ mod PrepareLemmas
 mod RunLemmas
 mod StandLemmas
 mod TellLemmas
+mod RoseLemmas

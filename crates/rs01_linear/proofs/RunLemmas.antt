@@ -1,5 +1,5 @@
 -- How far a reading has come after some sectors.
-use Rattle.std.proofs.Common.{◌≡◌, ℕ, ◌+◌, ◌≤◌, ◌∙◌, sym, subst, false, List}
+use Rattle.std.proofs.Common.{◌≡◌, ℕ, ◌+◌, ◌≤◌, sym, subst, false, List}
 use Rattle.std.specs.Prelude.{IsTrue, Option, Result, Err}
 use Rattle.rs01_outside.specs.DeskState.{DeskState, WorksOn}
 use Rattle.rs01_outside.specs.DriveView.{DriveView}
@@ -10,14 +10,8 @@ use Rattle.rs01_linear.specs.Course.{Manner}
 use Rattle.rs01_linear.specs.Lasting.{RackLasts}
 use Rattle.rs01_linear.specs.Standing.{Halted, Halts, Keeps, PassesAll, Stands}
 use Rattle.rs01_linear.specs.declared.reading.Reading.{Reading}
-use Rattle.rs01_linear.proofs.LastingLemmas.{lasts_then, told_before}
-
--- and one after another
-pub keeps_then : (one two three : Reading) (rack rack' rack'' : RackState) → Keeps one two rack rack' → Keeps two three rack' rack'' → Keeps one three rack rack''
-keeps_then one two three rack rack' rack'' first then = record {
-  lasts = lasts_then rack rack' rack'' first.lasts then.lasts;
-  all = then.all ∙ first.all;
-}
+use Rattle.rs01_linear.proofs.LastingLemmas.{told_before}
+use Rattle.rs01_linear.proofs.RoseLemmas.{keeps_then}
 
 -- what holds after the sectors below s
 pub record SoFar (known : Known) (manner : Manner) (name : List ℕ) (s : ℕ) (desk desk' : DeskState) (rack rack' : RackState) (reading reading' : Reading) : Type 0 where

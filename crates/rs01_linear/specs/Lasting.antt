@@ -2,6 +2,7 @@
 use Rattle.std.specs.Prelude.{ℕ, ◌≡◌, ◌≤◌, ◌+◌, IsTrue, List, length, sum_by}
 use Rattle.rs01_outside.specs.DriveState.{DriveState}
 use Rattle.rs01_outside.specs.DriveView.{DriveView}
+use Rattle.rs01_rack.specs.Asking.{RoseBy}
 use Rattle.rs01_rack.specs.Rack.{AllTell, AtDrive, RackState, capped, views_of}
 
 -- a drive that tells told before, and its count of faults never falls
@@ -24,3 +25,7 @@ pub record RackLasts (old new : RackState) : Type 0 where
   pub number : length new.drives ≡ length old.drives
   pub each : (k : ℕ) → AtDrive old.drives new.drives k Lasts
   pub asks : AllTell new → CountsAsks old new
+
+-- each drive's count rose by so many
+abbrev pub AllRoseBy : ℕ → RackState → RackState → Type 0
+AllRoseBy n old new = (k : ℕ) → AtDrive old.drives new.drives k (λ before after. RoseBy n before.faults after.faults)

@@ -7,6 +7,7 @@ use Rattle.rs01_rack.specs.Rack.{AllTell, RackState, views_of}
 use Rattle.rs01_ecchead.specs.Erased.{Known, image_len}
 use Rattle.rs01_report.specs.declared.reports.ReadReport.{ReadReport}
 use Rattle.rs01_linear.specs.Course.{Manner, read_to, whole_reading}
+use Rattle.rs01_linear.specs.Lasting.{AllRoseBy}
 use Rattle.rs01_linear.specs.Left.{IsOnTheWay, image_left, marked}
 use Rattle.rs01_linear.specs.Medium.{IsUnfit, found}
 use Rattle.rs01_linear.specs.Refusal.{IsOfMedium}
@@ -59,3 +60,8 @@ RefusesBy (Err (Ecc why)) old new = new ≡ old
 RefusesBy (Err (Rack why)) old new = GivesNumber (Err why) old new × HasCause (Err why) old new
 RefusesBy (Err (DriveSize n)) old new = GivesNumber (Ok n) old new × IsUnfit n
 RefusesBy answer old new = Unit {0}
+
+-- each sector that is told to be unreadable raised the count of each drive
+abbrev pub UnreadableRose : Result ReadReport ReadRefusal → RackState → RackState → Type 0
+UnreadableRose (Ok told) old new = AllRoseBy (length told.unreadable) old new
+UnreadableRose (Err why) old new = Unit {0}

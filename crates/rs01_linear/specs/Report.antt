@@ -1,5 +1,5 @@
 -- What is told of a medium that was read, by what became of each sector.
-use Rattle.std.specs.Prelude.{ℕ, Bool, true, false, List, [], count_by, filter, length, slice_get}
+use Rattle.std.specs.Prelude.{ℕ, ◌≡◌, Bool, true, false, List, [], count_by, filter, length, slice_get}
 use Rattle.std.specs.List.{range_with_len}
 use Rattle.std.specs.Option.{option_map_or}
 use Rattle.rs01_report.specs.declared.reports.ReadReport.{ReadReport}
@@ -46,3 +46,12 @@ report_of fates asked surplus = record {
   strange = [];
   surplus = surplus;
 }
+
+-- how many sectors no drive answered for
+abbrev pub unread : List Fate → ℕ
+unread fates = count_by (is_told told.Unreadable) fates
+
+-- so many sectors, and none that was asked for in vain
+pub record IsFresh (sectors : ℕ) (fates : List Fate) : Type 0 where
+  pub all : length fates ≡ sectors
+  pub none : unread fates ≡ 0

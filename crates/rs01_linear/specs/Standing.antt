@@ -1,13 +1,14 @@
 -- How far a reading into an image file y has come.
-use Rattle.std.specs.Prelude.{ℕ, ◌≡◌, ◌≤◌, ◌++◌, ◌+◌, IsTrue, List, Option, Some, Result, Ok, Err, drop, length}
+use Rattle.std.specs.Prelude.{ℕ, ◌≡◌, ◌≤◌, ◌++◌, ◌+◌, ◌-◌, IsTrue, List, Option, Some, Result, Ok, Err, drop, length}
 use Rattle.rs01_outside.specs.DeskState.{DeskState}
 use Rattle.rs01_outside.specs.DriveView.{DriveView}
 use Rattle.rs01_rack.specs.Rack.{AllTell, RackState, views_of}
 use Rattle.rs01_ecchead.specs.Erased.{Known}
 use Rattle.rs01_linear.specs.Course.{Manner, read_to}
-use Rattle.rs01_linear.specs.Lasting.{RackLasts}
+use Rattle.rs01_linear.specs.Lasting.{AllRoseBy, RackLasts}
 use Rattle.rs01_linear.specs.Left.{first_fates, image_left, marked, mixed}
 use Rattle.rs01_linear.specs.Marking.{IsMixed, place}
+use Rattle.rs01_linear.specs.Report.{unread}
 use Rattle.rs01_linear.specs.declared.reading.Reading.{Reading}
 
 -- drives, what is kept and the image file, once the sectors below s were passed
@@ -51,7 +52,9 @@ TellsPasses known manner name desk desk' was is result old new =
     (y : List ℕ) (views : List DriveView) → IsTrue desk.tells → AllTell new → Stands known manner y views 0 old was (desk.files name)
     → PassesAll known manner y views new is (desk'.files name) result
 
--- what passing sectors keeps, whatever is told: the drives, and what became of each sector
+-- what passing sectors keeps, whatever is told: the drives, how many sectors there are, and that each one that no drive
+-- answered for raised each drive's count
 pub record Keeps (was is : Reading) (old new : RackState) : Type 0 where
   pub lasts : RackLasts old new
   pub all : length is.fates.items ≡ length was.fates.items
+  pub rose : AllRoseBy (unread is.fates.items - unread was.fates.items) old new

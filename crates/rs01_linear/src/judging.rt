@@ -5,6 +5,7 @@ ghost use Rattle.rs01_ecchead.specs.Walked.{is_walk_fault};
 ghost use Rattle.rs01_linear.specs.Judged.{fate_by};
 ghost use Rattle.rs01_linear.specs.Left.{first_fates};
 ghost use Rattle.rs01_linear.specs.Medium.{known_of};
+ghost use Rattle.rs01_linear.specs.Report.{IsFresh};
 
 use crate::fate::Fate;
 use crate::medium::Medium;
@@ -24,8 +25,8 @@ fn fate_by(found: Condition) -> Fate
 }
 
 impl Visitor for Medium {
-    ghost use Rattle.std.specs.Prelude.{◌≡◌, length};
     ghost use Rattle.rs01_linear.specs.Judged.{JudgedShown};
+    ghost use Rattle.rs01_linear.specs.Report.{IsFresh};
 
     type Kept = Vec<Fate>;
 
@@ -33,7 +34,7 @@ impl Visitor for Medium {
 
     ghost keeps = { λ v image n fates. JudgedShown v image n fates.items };
 
-    ghost fits = { λ v n fates. length fates.items ≡ n };
+    ghost fits = { λ v n fates. IsFresh n fates.items };
 
     fn sector(
         &self,
@@ -58,7 +59,7 @@ pub fn judge_image<D: Desk>(
     medium: &Medium,
 ) -> Result<Vec<Fate>, WalkFault>
     ensures reads { OnlyReads (D.state desk.old) (D.state desk.new) (is_walk_fault result) }
-    ensures all { IfOk result (λ fates. length fates.items ≡ medium.now.extent.sectors) }
+    ensures fresh { IfOk result (λ fates. IsFresh medium.now.extent.sectors fates.items) }
     ensures judged { InFile (D.state desk.old) name.now (λ file. size ≡ length file
         → IfOk result (λ fates. fates.items ≡ first_fates (known_of medium.now) file)) }
 {

@@ -5,8 +5,9 @@ ghost use Rattle.rs01_linear.specs.Course.{IsManner};
 ghost use Rattle.rs01_linear.specs.Lasting.{RackLasts};
 ghost use Rattle.rs01_linear.specs.Linear.{TellsPrepared};
 ghost use Rattle.rs01_linear.specs.Medium.{known_of};
-ghost use Rattle.rs01_linear.specs.Outcome.{RefusesBy, TellsReading};
+ghost use Rattle.rs01_linear.specs.Outcome.{RefusesBy, TellsReading, UnreadableRose};
 ghost use Rattle.rs01_linear.specs.Racks.{OnRack, seen_by};
+ghost use Rattle.rs01_linear.specs.Report.{IsFresh};
 ghost use Rattle.rs01_linear.specs.Refusal.{IsOfWork, WorksBy};
 
 use crate::medium::Medium;
@@ -40,11 +41,12 @@ fn read_prepared<D: Desk>(
     tries: u32,
     prepared: Prepared,
 ) -> Result<ReadReport, ReadRefusal>
-    requires all { length prepared.fates.items ≡ medium.now.extent.sectors }
+    requires fresh { IsFresh medium.now.extent.sectors prepared.fates.items }
     requires manner { IsManner jump tries }
     ensures works { WorksBy name.now (D.state desk.old) (D.state desk.new) result }
     ensures causes { IfErr result IsOfWork }
     ensures lasts { OnRack ⟦<dyn Drive as Drive>⟧ RackLasts rack.old rack.new }
+    ensures unreadable { OnRack ⟦<dyn Drive as Drive>⟧ (UnreadableRose result) rack.old rack.new }
     ensures told { OnRack ⟦<dyn Drive as Drive>⟧ (TellsPrepared (known_of medium.now)
         (record { jump = jump; tries = tries }) name.now prepared (D.state desk.old)
         (D.state desk.new) result) rack.old rack.new }
@@ -83,6 +85,7 @@ pub fn read_linear<D: Desk>(
     requires manner { IsManner jump tries }
     ensures works { WorksBy image.now (D.state desk.old) (D.state desk.new) result }
     ensures lasts { OnRack ⟦<dyn Drive as Drive>⟧ RackLasts rack.old rack.new }
+    ensures unreadable { OnRack ⟦<dyn Drive as Drive>⟧ (UnreadableRose result) rack.old rack.new }
     ensures refused { OnRack ⟦<dyn Drive as Drive>⟧ (RefusesBy result) rack.old rack.new }
     ensures told { let given = option_map (λ name. (D.state desk.old).files name.now) ecc.entry in
         OnRack ⟦<dyn Drive as Drive>⟧ (TellsReading given (record { jump = jump; tries = tries })

@@ -1,6 +1,7 @@
 //! Getting an image file ready, before a sector is asked for.
-ghost use Rattle.std.specs.Prelude.{◌≡◌, IfErr, IfOk, IsTrue, length};
+ghost use Rattle.std.specs.Prelude.{IfErr, IfOk, IsTrue};
 ghost use Rattle.rs01_linear.specs.Medium.{known_of};
+ghost use Rattle.rs01_linear.specs.Report.{IsFresh};
 ghost use Rattle.rs01_linear.specs.Refusal.{IsOfWork, WorksBy};
 
 use crate::fate::Fate;
@@ -46,8 +47,8 @@ pub fn prepare<D: Desk>(
 ) -> Result<Prepared, ReadRefusal>
     ensures works { WorksBy name.now (D.state desk.old) (D.state desk.new) result }
     ensures causes { IfErr result IsOfWork }
-    ensures all { IfOk result (λ prepared. length prepared.fates.items
-        ≡ medium.now.extent.sectors) }
+    ensures fresh { IfOk result (λ prepared. IsFresh medium.now.extent.sectors
+        prepared.fates.items) }
     ensures told { IsTrue (D.state desk.old).tells → Prepares (known_of medium.now)
         ((D.state desk.old).files name.now) ((D.state desk.new).files name.now) result }
 {

@@ -5,6 +5,7 @@ use Rattle.rs01_outside.specs.Files.{Files}
 use Rattle.rs01_linear.specs.Refusal.{IsOfWork}
 use Rattle.rs01_linear.proofs.EndLemmas.{ends_left, ends_read, ends_unprepared}
 use Rattle.rs01_linear.proofs.LastingLemmas.{lasts_then, told_before}
+use Rattle.rs01_linear.proofs.RoseLemmas.{rose_after}
 use Rattle.rs01_linear.proofs.linear.read_linear.Goals as goal
 
 pub returns-in_err-read_prepared-clause-lasts : goal.returns-in_err-read_prepared-clause-lasts
@@ -41,3 +42,6 @@ returns-clause-told g c = λ t tell.
     ends_read _ _ c.in_ok-medium.medium _ _ _ _ _ _ c.in_ok-read_prepared.field-0
     (c.in_ok-medium.ensures.told t tell1) (c.in_ok-medium.ensures.asked.same tell1) c.in_ok-medium.ensures.asked.asks still
     (c.in_ok-read_prepared.ensures.told _ t2 tell (c.in_ok-prepared.ensures.told t1))
+
+pub returns-clause-unreadable : goal.returns-clause-unreadable
+returns-clause-unreadable g c = rose_after _ _ _ _ c.in_ok-medium.ensures.asked.lasts c.in_ok-read_prepared.ensures.unreadable

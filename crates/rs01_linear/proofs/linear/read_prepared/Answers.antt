@@ -4,6 +4,7 @@ use Rattle.rs01_linear.specs.Medium.{known_of}
 use Rattle.rs01_linear.specs.Report.{report_of}
 use Rattle.rs01_linear.proofs.LinearLemmas.{left_halted, left_lacking, read_whole, stands_start}
 use Rattle.rs01_linear.proofs.MarkLemmas.{sized_by}
+use Rattle.rs01_linear.proofs.RoseLemmas.{rose_told}
 use Rattle.rs01_linear.proofs.linear.read_prepared.Goals as goal
 
 pub returns-in_err-read_sectors-clause-told : goal.returns-in_err-read_sectors-clause-told
@@ -24,3 +25,8 @@ returns-clause-told g c = λ before t tell ready.
     (c.in_ok-read_sectors.ensures.told _ _ t tell (stands_start (known_of c.args.medium.now) _ before _ _ c.args.prepared _ (sized_by c.args.medium.now.extent _) refl refl ready))
     (c.in_ok-report.ensures ∙ ap (λ xs. report_of xs c.asked_since-asked.result c.saturating_sub-surplus.result) c.deref.ensures.value)
     (c.asked_since-asked.ensures ∙ ap (λ n. min (c.read_sectors.new.rack.asks - n) (2 ^ 64 - 1)) c.asks-asks.ensures) ready.size_is (c.saturating_sub-surplus.ensures ∙ ap (λ n. c.args.prepared.size - n) c.image_len.ensures.value)
+
+pub returns-clause-unreadable : goal.returns-clause-unreadable
+returns-clause-unreadable g c =
+    rose_told _ c.read_sectors.new.reading _ _ _ _ c.asked_since-asked.result c.saturating_sub-surplus.result c.in_ok-read_sectors.ensures.kept c.requires.fresh
+    (c.in_ok-report.ensures ∙ ap (λ xs. report_of xs c.asked_since-asked.result c.saturating_sub-surplus.result) c.deref.ensures.value)

@@ -3,6 +3,7 @@ use Rattle.std.proofs.Math.ListN.{set}
 use Rattle.rs01_linear.specs.Medium.{known_of}
 use Rattle.rs01_linear.specs.declared.asking.Asked.TheVariants as asked
 use Rattle.rs01_linear.proofs.MarkLemmas.{sized_by}
+use Rattle.rs01_linear.proofs.RoseLemmas.{keeps_asked, keeps_same}
 use Rattle.rs01_linear.proofs.StandLemmas.{comes_with, halts_read, stands_kept, stands_left, stands_read, stands_vain}
 use Rattle.rs01_linear.proofs.reading.pass_sector.Goals as goal
 
@@ -52,3 +53,29 @@ returns-in-Err-clause-told g c = λ y views t tell st.
     (sized_by c.args.medium.now.extent _) c.requires.sector c.index.ensures (sym c.is_left_out.ensures ∙ c.if-not-is_left_out.false) late comes
     c.in-Read.is c.ask_sector-asked.array_long
     (ap (λ n. 2048 * n) c.from.ensures) (ap (λ n. take n c.ask_sector-asked.new.into) c.length.ensures.value) (c.in-Err.ensures.written t) st
+
+pub returns-in-Unreadable-clause-kept : goal.returns-in-Unreadable-clause-kept
+returns-in-Unreadable-clause-kept g c =
+    keeps_asked c.args.reading.now _ _ _ c.args.sector c.ask_sector-asked.result c.ask_sector-asked.ensures.asked.lasts c.ask_sector-asked.ensures.cause
+    (ap (set c.args.reading.now.fates.items c.args.sector) c.fate_of.ensures)
+
+pub returns-in-Altered-clause-kept : goal.returns-in-Altered-clause-kept
+returns-in-Altered-clause-kept g c =
+    keeps_asked c.args.reading.now _ _ _ c.args.sector c.ask_sector-asked.result c.ask_sector-asked.ensures.asked.lasts c.ask_sector-asked.ensures.cause
+    (ap (set c.args.reading.now.fates.items c.args.sector) c.fate_of.ensures)
+
+pub returns-in-Ok-clause-kept : goal.returns-in-Ok-clause-kept
+returns-in-Ok-clause-kept g c =
+    keeps_asked c.args.reading.now _ _ _ c.args.sector c.ask_sector-asked.result c.ask_sector-asked.ensures.asked.lasts c.ask_sector-asked.ensures.cause
+    (ap (set c.args.reading.now.fates.items c.args.sector) c.fate_of.ensures)
+
+pub returns-in-Err-clause-kept : goal.returns-in-Err-clause-kept
+returns-in-Err-clause-kept g c =
+    keeps_asked c.args.reading.now _ _ _ c.args.sector c.ask_sector-asked.result c.ask_sector-asked.ensures.asked.lasts c.ask_sector-asked.ensures.cause
+    (ap (set c.args.reading.now.fates.items c.args.sector) c.fate_of.ensures)
+
+pub returns-then-not-is_left_out-clause-kept : goal.returns-then-not-is_left_out-clause-kept
+returns-then-not-is_left_out-clause-kept g c = keeps_same c.args.reading.now _ c.args.rack.now.counted
+
+pub returns-then-sector-reading-clause-kept : goal.returns-then-sector-reading-clause-kept
+returns-then-sector-reading-clause-kept g c = keeps_same c.args.reading.now _ c.args.rack.now.counted

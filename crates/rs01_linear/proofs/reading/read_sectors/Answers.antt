@@ -1,7 +1,8 @@
 use Rattle.std.proofs.Common.{◌≤◌, ◌+◌, arith}
 use Rattle.std.proofs.lemmas.Result.{err_from_is_err_and}
 use Rattle.rs01_linear.specs.Medium.{known_of}
-use Rattle.rs01_linear.proofs.RunLemmas.{ends_halted, keeps_then, so_far_halted, so_far_more}
+use Rattle.rs01_linear.proofs.RoseLemmas.{keeps_then}
+use Rattle.rs01_linear.proofs.RunLemmas.{ends_halted, so_far_halted, so_far_more}
 use Rattle.rs01_linear.proofs.reading.read_sectors.Goals as goal
 
 pub returns-in_err-pass_sector-clause-kept : goal.returns-in_err-pass_sector-clause-kept
