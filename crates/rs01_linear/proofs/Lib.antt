@@ -13,4 +13,4 @@ mod PrepareLemmas
 mod RunLemmas
 mod StandLemmas
 mod TellLemmas
-mod RoseLemmas
+pub mod RoseLemmas

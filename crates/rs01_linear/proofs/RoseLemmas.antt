@@ -41,7 +41,7 @@ unread_set (x ∷ fates) zero fate = omega (arith, unread_cons x fates, unread_c
 unread_set (x ∷ fates) (suc s) fate =
     omega (arith, unread_cons x fates, unread_cons x (set fates s fate), unread_set fates s fate)
 
-same_rose : (o : Option DriveState) (b a : DriveState) → o ≡ Some b → o ≡ Some a → RoseBy 0 b.faults a.faults
+pub same_rose : (o : Option DriveState) (b a : DriveState) → o ≡ Some b → o ≡ Some a → RoseBy 0 b.faults a.faults
 same_rose o b a was is =
     let e : Some b ≡ Some a = sym was ∙ is in
     let drive : b ≡ a = cc in

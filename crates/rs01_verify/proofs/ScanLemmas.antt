@@ -13,13 +13,14 @@ use Rattle.rs01_rack.specs.Rack.{AllRose, RackState, views_of}
 use Rattle.rs01_ecchead.specs.Erased.{Known}
 use Rattle.rs01_ecchead.specs.declared.opened.Ecc.{Ecc}
 use Rattle.rs01_linear.specs.Asking.{Asks, ComesTo, ask_drives, kind_of}
-use Rattle.rs01_linear.specs.Lasting.{RackLasts}
+use Rattle.rs01_linear.specs.Lasting.{AllRoseBy, RackLasts}
 use Rattle.rs01_linear.specs.Medium.{known_of}
 use Rattle.rs01_linear.specs.declared.asking.Asked.{Asked}
 use Rattle.rs01_linear.specs.declared.asking.Asked.TheVariants.{Altered, Read, Unreadable}
 use Rattle.rs01_linear.specs.declared.medium.Medium.{Medium}
 use Rattle.rs01_linear.proofs.LastingLemmas.{drive_there, lasts_then, rack_lasts, told_before}
-use Rattle.rs01_verify.specs.Scan.{AllRoseBy, asked_at, is_altered, is_lost, is_unreadable, scan_to}
+use Rattle.rs01_linear.proofs.RoseLemmas.{same_rose}
+use Rattle.rs01_verify.specs.Scan.{asked_at, is_altered, is_lost, is_unreadable, scan_to}
 use Rattle.rs01_verify.specs.Scanned.{CountedFor, HasAsked, HasStopped, IsBare, IsKept, Keeps, condition_from, lost_below}
 use Rattle.rs01_verify.specs.Tallied.{altered_part, counts_after, IsCounted, missing_part}
 use Rattle.rs01_verify.specs.declared.tally.Tally.{Tally}
@@ -27,7 +28,6 @@ use Rattle.rs01_verify.proofs.CountLemmas.{filter_range_more, count_range_more, 
 use Rattle.rs01_verify.proofs.SurveyLemmas.{length-zeros, zeros_at}
 use Rattle.std.proofs.lemmas.List.{length-append}
 use Rattle.std.proofs.lemmas.List.FromFn.{fill_by_all}
-use Rattle.rs01_rack.specs.Asking.{RoseBy}
 
 unreadable_part : (asked : Asked) (s : ℕ) → missing_part (condition_from asked) s ≡ cond (is_unreadable asked) (s ∷ []) []
 unreadable_part Read s = refl
@@ -133,12 +133,6 @@ stopped_after medium old mid new s asked block t below asks before = record {
 pub stopped_before : (medium : Medium) (rack : RackState) → rack.asks < 2 ^ 128 → HasStopped medium rack rack
 unfolding scan_to
 stopped_before medium rack small = record { lasts = rack_lasts rack small; told = λ tell. (0, omega arith, refl) }
-
-same_rose : (o : Option DriveState) (b a : DriveState) → o ≡ Some b → o ≡ Some a → RoseBy 0 b.faults a.faults
-same_rose o b a was is =
-    let e : Some b ≡ Some a = sym was ∙ is in
-    let drive : b ≡ a = cc in
-    subst (λ (d : DriveState). RoseBy 0 b.faults d.faults) drive (omega arith)
 
 bare_counted : (layers : ℕ) (t : Tally) → t.counts.items ≡ replicate layers 0 → IsCounted layers 0 t
 bare_counted layers t e = record {

@@ -3,13 +3,12 @@ use Rattle.std.specs.Prelude.{ℕ, zero, suc, ◌≡◌, ◌≤◌, Bool, false,
 use Rattle.std.specs.List.{range_with_len}
 use Rattle.std.specs.Option.{option_map}
 use Rattle.rs01_outside.specs.DriveView.{DriveView}
-use Rattle.rs01_rack.specs.Asking.{RoseBy}
 use Rattle.rs01_rack.specs.Rack.{AtDrive, FaultsRose, RackState}
 use Rattle.rs01_rack.specs.declared.refusal.RackRefusal.TheVariants.{Failed}
 use Rattle.rs01_ecchead.specs.Erased.{Known, counts_of}
 use Rattle.rs01_ecchead.specs.Opened.{Opened}
 use Rattle.rs01_linear.specs.Asking.{ask_drives, kind_of}
-use Rattle.rs01_linear.specs.Lasting.{RackLasts}
+use Rattle.rs01_linear.specs.Lasting.{AllRoseBy, RackLasts}
 use Rattle.rs01_linear.specs.Medium.{Found, found}
 use Rattle.rs01_linear.specs.Refusal.{IsOfMedium}
 use Rattle.rs01_linear.specs.declared.asking.Asked.{Asked}
@@ -77,10 +76,6 @@ pub record RefusesScan (medium : Result Found ReadRefusal) (old new : List Drive
 abbrev pub IsScanOf : Option (Option (List ℕ)) → List DriveView → List DriveView → Result ScanReport ReadRefusal → Type 0
 IsScanOf file old new (Ok report) = IsOkAnd (found file old) (IsScanned old new report)
 IsScanOf file old new (Err why) = RefusesScan (found file old) old new why
-
--- each drive's count rose by so many
-abbrev pub AllRoseBy : ℕ → RackState → RackState → Type 0
-AllRoseBy n old new = (k : ℕ) → AtDrive old.drives new.drives k (λ before after. RoseBy n before.faults after.faults)
 
 -- each sector that is told to be unreadable raised the count of each drive, and so did a drive that is said to have failed
 abbrev pub HasScanCause : Result ScanReport ReadRefusal → RackState → RackState → Type 0

@@ -10,12 +10,12 @@ use Rattle.rs01_ecchead.specs.Erased.{Known}
 use Rattle.rs01_ecchead.specs.declared.condition.Condition.{Condition}
 use Rattle.rs01_ecchead.specs.declared.condition.Condition.TheVariants as condition
 use Rattle.rs01_ecchead.specs.declared.opened.Ecc.{Ecc}
-use Rattle.rs01_linear.specs.Lasting.{RackLasts}
+use Rattle.rs01_linear.specs.Lasting.{AllRoseBy, RackLasts}
 use Rattle.rs01_linear.specs.Medium.{known_of}
 use Rattle.rs01_linear.specs.declared.asking.Asked.{Asked}
 use Rattle.rs01_linear.specs.declared.asking.Asked.TheVariants as asked
 use Rattle.rs01_linear.specs.declared.medium.Medium.{Medium}
-use Rattle.rs01_verify.specs.Scan.{AllRoseBy, asked_at, is_altered, is_lost, is_unreadable, scan_to}
+use Rattle.rs01_verify.specs.Scan.{asked_at, is_altered, is_lost, is_unreadable, scan_to}
 use Rattle.rs01_verify.specs.Tallied.{IsCounted, altered_part, counts_after, missing_part}
 use Rattle.rs01_verify.specs.declared.tally.Tally.{Tally}
 
