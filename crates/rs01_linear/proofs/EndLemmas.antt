@@ -1,6 +1,6 @@
 -- What a reading comes to, from what was found, and from what became of the image file.
 use Rattle.std.proofs.Common.{◌≡◌, ℕ, ◌-◌, ◌^◌, ◌∙◌, ap, arith, sym, refl, subst, List, [], min, inl, inr, ◌⊎◌, length}
-use Rattle.std.specs.Prelude.{Option, Some, Result, Ok, Err, IsOkAnd, IsSomeAnd}
+use Rattle.std.specs.Prelude.{Option, Some, Result, Ok, Err, IsOk, IsOkAnd, IsSomeAnd, IsTrue}
 use Rattle.std.specs.Option.{unwrap_or}
 use Rattle.rs01_outside.specs.DriveView.{DriveView}
 use Rattle.rs01_rack.specs.Rack.{RackState, views_of}
@@ -11,7 +11,7 @@ use Rattle.rs01_linear.specs.Left.{IsOnTheWay, image_left, marked}
 use Rattle.rs01_linear.specs.Marking.{IsMixed}
 use Rattle.rs01_linear.specs.Medium.{Found, IsMedium, found, known_of}
 use Rattle.rs01_linear.specs.Outcome.{IsLeftAt, IsReadInto, Reads}
-use Rattle.rs01_linear.specs.Refusal.{IsOfMedium, IsOfWork}
+use Rattle.rs01_linear.specs.Refusal.{IsOfMedium, IsOfReading, IsOfWork, writes_badly}
 use Rattle.rs01_linear.specs.Report.{report_of}
 use Rattle.rs01_linear.specs.declared.medium.Medium.{Medium}
 use Rattle.rs01_linear.specs.declared.refusal.ReadRefusal.{ReadRefusal}
@@ -28,6 +28,14 @@ work_only (DriveSize n) work medium = work
 work_only ReadFault work medium = medium
 work_only WriteFault work medium = medium
 work_only OutOfMemory work medium = medium
+
+reads_only : (why : ReadRefusal) → IsOfReading why → IsTrue (writes_badly why) → ⊥
+reads_only (Ecc why) reading writes = cc
+reads_only (Rack why) reading writes = cc
+reads_only (DriveSize n) reading writes = cc
+reads_only ReadFault reading writes = cc
+reads_only WriteFault reading writes = reading
+reads_only OutOfMemory reading writes = cc
 
 -- the same by drives with the same views, and by the same image file
 left_from : (known known' : Known) (manner : Manner) (before before' file : Option (List ℕ)) (old old' new : RackState) → known' ≡ known → views_of old ≡ views_of old' → before ≡ before'
@@ -57,13 +65,29 @@ read_from known known' manner before before' file old old' new told k v a b is =
     subst (λ (o : Option (List ℕ)). IsReadInto known' manner (unwrap_or o []) old' new file told) b
     (subst (λ (n : Known). IsReadInto n manner y old' new file told) (sym k) here)
 
+is_found : (result : Result Found ReadRefusal) (P : Found → Type 0) → IsOkAnd result P → IsOk result
+is_found (Ok f) P is = refl
+is_found (Err why) P is = absurd is
+
 unread : (given : Option (Option (List ℕ))) (manner : Manner) (old new : RackState) (before file : Option (List ℕ)) (result : Result ReadReport ReadRefusal) (why : ReadRefusal)
     → result ≡ Err why → IsOfWork why → IsOkAnd (found given (views_of old)) (λ f. IsLeftAt f.known manner (unwrap_or before []) old new before file)
     → Reads given manner old new before file result
 unread given manner old new before file result why is work left = rw is (record {
   refused = λ medium. absurd (work_only why work medium);
   untouched = λ medium. absurd (work_only why work medium);
+  write_fault_last = λ writes. is_found (found given (views_of old)) (λ f. IsLeftAt f.known manner (unwrap_or before []) old new before file) left;
   left = inr left;
+})
+
+-- the medium wasn't opened
+pub ends_unopened : (given : Option (Option (List ℕ))) (manner : Manner) (old new : RackState) (before file : Option (List ℕ)) (result : Result ReadReport ReadRefusal) (why : ReadRefusal)
+    → result ≡ Err why → IsOfReading why → (IsOfMedium why → found given (views_of old) ≡ Err why) → views_of new ≡ views_of old → file ≡ before
+    → Reads given manner old new before file result
+ends_unopened given manner old new before file result why is reading first same still = rw is (record {
+  refused = first;
+  untouched = λ medium. record { views_are = same; file_is = still };
+  write_fault_last = λ writes. absurd (reads_only why reading writes);
+  left = inl (record { views_are = same; file_is = still });
 })
 
 left_at : (known : Known) (manner : Manner) (rack : RackState) (opened file : Option (List ℕ))

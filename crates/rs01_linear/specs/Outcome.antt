@@ -1,5 +1,5 @@
 -- What a reading into a named image leaves and answers. The image file before is y, and none where it wasn't there.
-use Rattle.std.specs.Prelude.{ℕ, ◌≡◌, ◌≤◌, ◌⊎◌, ◌-◌, ◌^◌, List, [], Option, Some, Result, Ok, Err, IsOkAnd, IsSomeAnd, IsTrue, length, min}
+use Rattle.std.specs.Prelude.{ℕ, ◌≡◌, ◌≤◌, ◌⊎◌, ◌-◌, ◌^◌, List, [], Option, Some, Result, Ok, Err, IsOk, IsOkAnd, IsSomeAnd, IsTrue, length, min}
 use Rattle.std.specs.Option.{unwrap_or}
 use Rattle.rs01_outside.specs.DeskState.{DeskState}
 use Rattle.rs01_rack.specs.Counting.{GivesNumber, HasCause}
@@ -10,7 +10,7 @@ use Rattle.rs01_linear.specs.Course.{Manner, read_to, whole_reading}
 use Rattle.rs01_linear.specs.Lasting.{AllRoseBy}
 use Rattle.rs01_linear.specs.Left.{IsOnTheWay, image_left, marked}
 use Rattle.rs01_linear.specs.Medium.{IsUnfit, found}
-use Rattle.rs01_linear.specs.Refusal.{IsOfMedium}
+use Rattle.rs01_linear.specs.Refusal.{IsOfMedium, writes_badly}
 use Rattle.rs01_linear.specs.Report.{report_of}
 use Rattle.rs01_linear.specs.declared.refusal.ReadRefusal.{ReadRefusal}
 use Rattle.rs01_linear.specs.declared.refusal.ReadRefusal.TheVariants.{DriveSize, Ecc, Rack}
@@ -37,11 +37,12 @@ pub record IsUntouched (old new : RackState) (before file : Option (List ℕ)) :
   pub views_are : views_of new ≡ views_of old
   pub file_is : file ≡ before
 
--- a medium that is refused is refused as its file and its drives say, and nothing has changed; after a fault or want of
--- memory nothing has changed or the reading is left at some sector
+-- a medium that is refused is refused as its file and its drives say, and nothing has changed; writing is tried only in
+-- one that isn't; after a fault or want of memory nothing has changed or the reading is left at some sector
 pub record IsUnread (given : Option (Option (List ℕ))) (manner : Manner) (old new : RackState) (before file : Option (List ℕ)) (why : ReadRefusal) : Type 0 where
   pub refused : IsOfMedium why → found given (views_of old) ≡ Err why
   pub untouched : IsOfMedium why → IsUntouched old new before file
+  pub write_fault_last : IsTrue (writes_badly why) → IsOk (found given (views_of old))
   pub left : IsUntouched old new before file ⊎ IsOkAnd (found given (views_of old)) (λ f. IsLeftAt f.known manner (unwrap_or before []) old new before file)
 
 -- what a reading leaves and answers, where the desk and the drives tell

@@ -101,3 +101,12 @@ WorksBy name old new result = WorksOn name old new (is_read_fault result) (is_wr
 pub record Writes {T : Type 0} (name : List ℕ) (old new : DeskState) (result : Result T ReadRefusal) : Type 0 where
   pub works : WorksOn name old new false (is_write_fault result)
   pub causes : IfErr result IsOfWriting
+
+-- a refusal that tells a fault or want of memory as such, and never inside the file's refusal
+abbrev pub TellsFaults : ReadRefusal → Type 0
+TellsFaults (Ecc why) = IsOfFile why
+TellsFaults (Rack why) = Unit {0}
+TellsFaults (DriveSize n) = Unit {0}
+TellsFaults ReadFault = Unit {0}
+TellsFaults WriteFault = Unit {0}
+TellsFaults OutOfMemory = Unit {0}

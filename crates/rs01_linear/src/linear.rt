@@ -8,7 +8,7 @@ ghost use Rattle.rs01_linear.specs.Medium.{known_of};
 ghost use Rattle.rs01_linear.specs.Outcome.{RefusesBy, TellsReading, UnreadableRose};
 ghost use Rattle.rs01_linear.specs.Racks.{OnRack, seen_by};
 ghost use Rattle.rs01_linear.specs.Report.{IsFresh};
-ghost use Rattle.rs01_linear.specs.Refusal.{IsOfWork, WorksBy};
+ghost use Rattle.rs01_linear.specs.Refusal.{IsOfWork, TellsFaults, WorksBy};
 
 use crate::medium::Medium;
 use crate::opening::open_medium;

@@ -1,9 +1,9 @@
-use Rattle.std.proofs.Common.{ap, sym, subst}
-use Rattle.std.specs.Prelude.{IsTrue}
+use Rattle.std.proofs.Common.{◌∙◌, ap, sym, subst}
+use Rattle.std.specs.Prelude.{Err, IsTrue}
 use Rattle.std.proofs.lemmas.Result.{err_from_is_err_and}
 use Rattle.rs01_outside.specs.Files.{Files}
 use Rattle.rs01_linear.specs.Refusal.{IsOfWork}
-use Rattle.rs01_linear.proofs.EndLemmas.{ends_left, ends_read, ends_unprepared}
+use Rattle.rs01_linear.proofs.EndLemmas.{ends_left, ends_read, ends_unopened, ends_unprepared}
 use Rattle.rs01_linear.proofs.LastingLemmas.{lasts_then, told_before}
 use Rattle.rs01_linear.proofs.RoseLemmas.{rose_after}
 use Rattle.rs01_linear.proofs.linear.read_linear.Goals as goal
@@ -45,3 +45,10 @@ returns-clause-told g c = λ t tell.
 
 pub returns-clause-unreadable : goal.returns-clause-unreadable
 returns-clause-unreadable g c = rose_after _ _ _ _ c.in_ok-medium.ensures.asked.lasts c.in_ok-read_prepared.ensures.unreadable
+
+pub returns-in_err-medium-clause-told : goal.returns-in_err-medium-clause-told
+returns-in_err-medium-clause-told g c = λ t tell.
+    let p = err_from_is_err_and c.from_residual.result c.from_residual.ensures.1 in
+    let still = ap (λ (f : Files). f c.args.image.now) (c.in_err-medium.ensures.reads.unchanged t) in
+    ends_unopened _ _ _ _ _ _ c.from_residual.result _ (p.1 ∙ ap Err p.2) c.in_err-medium.ensures.causes
+    (c.in_err-medium.ensures.told t tell) (c.in_err-medium.ensures.asked.same tell) still
