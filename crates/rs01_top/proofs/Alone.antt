@@ -1,14 +1,13 @@
 -- What holds of a run that is not given the drives, by how its work and its last text ended.
-use Rattle.std.proofs.Common.{◌≡◌, ◌⊎◌, ℕ, List, ap, false, true}
+use Rattle.std.proofs.Common.{◌≡◌, ◌⊎◌, ℕ, List, refl, false, true}
 use Rattle.std.specs.Prelude.{IsTrue, None, Option, Some}
 use Rattle.rs01_outside.specs.DeskState.{DeskState, WorksOn}
-use Rattle.rs01_outside.specs.Files.{Files}
 use Rattle.rs01_outside.specs.SinkState.{SinkState}
-use Rattle.rs01_rack.specs.Rack.{RackState, views_of}
+use Rattle.rs01_rack.specs.Rack.{RackState}
 use Rattle.rs01_report.specs.declared.faults.Fault.{Fault}
 use Rattle.rs01_report.specs.declared.faults.Fault.TheVariants as fault
 use Rattle.rs01_report.specs.Faults.{fault_line, status_of}
-use Rattle.rs01_top.specs.Outside.{Outside, told_by, world}
+use Rattle.rs01_top.specs.Outside.{told_by, world}
 use Rattle.rs01_top.specs.Run.{Ends, RunsAlone}
 use Rattle.rs01_top.specs.Work.{Work}
 use Rattle.rs01_top.proofs.Endings as run
@@ -43,7 +42,7 @@ pub refused : (work : Work) (name : List ℕ) (old new : DeskState) (out out' : 
 refused work name old new out out' why status words three works first same left ends =
     λ rack. run.refused work name (world old rack out) (world new rack out') why status words three (not_asked work rack) works
     (λ d. first rack d.0)
-    (λ d. ap (λ (files : Files). let outside : Outside = record { files = files; views = views_of rack } in outside) (same d.0))
+    (λ d. record { files = same d.0; views = refl })
     (λ d. left rack d.0) ends
 
 pub read_failed : (work : Work) (name : List ℕ) (old new : DeskState) (out out' : SinkState) (status : ℕ)

@@ -1,11 +1,13 @@
 -- What holds of a run whose words, or whose command, give no work.
-use Rattle.std.proofs.Common.{◌≡◌, ℕ, List, refl, sym, subst}
-use Rattle.std.specs.Prelude.{Result, Ok, Err}
+use Rattle.std.proofs.Common.{◌≡◌, ℕ, List, Bool, true, refl, sym, subst}
+use Rattle.std.specs.Prelude.{Option, Result, Ok, Err}
 use Rattle.rs01_outside.specs.DeskState.{DeskState}
 use Rattle.rs01_outside.specs.SinkState.{SinkState}
 use Rattle.rs01_rack.specs.Rack.{RackState}
+use Rattle.rs01_report.specs.declared.faults.Fault.TheVariants.{NotBuilt}
 use Rattle.rs01_report.specs.Faults.{fault_line, status_of}
 use Rattle.rs01_words.specs.declared.command.Command.{Command}
+use Rattle.rs01_words.specs.declared.command.Command.TheVariants.{Read}
 use Rattle.rs01_words.specs.declared.fault.WordFault.{WordFault}
 use Rattle.rs01_words.specs.declared.fault.WordFault.TheVariants.{NoCommand, UnknownCommand, UnknownOption, Repeated, NoValue, BadNumber, OutOfRange, Missing, SameName}
 use Rattle.rs01_words.specs.declared.fault.WordRefused.{WordRefused}
@@ -13,7 +15,7 @@ use Rattle.rs01_top.specs.Asked.{work_by, work_of}
 use Rattle.rs01_top.specs.Faults.{fault_at, word_fault}
 use Rattle.rs01_top.specs.Outside.{World, world}
 use Rattle.rs01_top.specs.Run.{Ends, IsRun}
-use Rattle.rs01_top.specs.Work.{Work}
+use Rattle.rs01_top.specs.Work.{Work, no_work}
 use Rattle.rs01_top.proofs.Endings.{not_begun}
 
 word_is : (fault : WordFault) (place : ℕ) → status_of (fault_at fault place) ≡ 2
@@ -43,6 +45,13 @@ pub as_asked : (read : Result Command WordRefused) (asked command : Command) (wo
 as_asked read asked command words old new status by is run =
     subst (λ (r : Result Command WordRefused). IsRun (work_by words r) old new status) by
     (subst (λ (a : Command). IsRun (work_of words a) old new status) (sym is) run)
+
+-- a reading in an order of its own, which isn't built
+pub as_adaptive : (image : ℕ) (ecc : Option ℕ) (drives : List ℕ) (adaptive : Bool) (jump tries workers : ℕ) (words : List (List ℕ)) (old new : World) (status : ℕ)
+    → adaptive ≡ true → IsRun (no_work NotBuilt) old new status
+    → IsRun (work_of words (Read image ecc drives adaptive jump tries workers)) old new status
+as_adaptive image ecc drives adaptive jump tries workers words old new status is run =
+    subst (λ (b : Bool). IsRun (work_of words (Read image ecc drives b jump tries workers)) old new status) (sym is) run
 
 -- work on two names, which are words
 pub by_names : (work : List ℕ → List ℕ → Work) (a b x y : List ℕ) (old new : World) (status : ℕ) → a ≡ x → b ≡ y

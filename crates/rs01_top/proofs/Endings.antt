@@ -236,11 +236,16 @@ done work name old new line wanted status words range rack works none did left e
     (λ five. absurd (low wanted 5 range five (omega arith)))
     (told line wanted old.out new.out status (λ e. low wanted 6 range e (omega arith)) (λ e. low wanted 7 range e (omega arith)) ends)
 
+-- files and drives mean the same as before
+pub record SameOutside (old new : Outside) : Type 0 where
+  pub files : new.files ≡ old.files
+  pub views : new.views ≡ old.views
+
 -- files or drives refuse the work
 refused_for : (work : Work) (name : List ℕ) (old new : World) (why : Fault) (status : ℕ)
     → NotOfWords work → (status_of why ≡ 3) ⊎ (status_of why ≡ 5) → OfRack work old.rack new.rack → WorksOn name old.desk new.desk false false
     → (IsKnown work old new → work.refusal (outside_of old) ≡ Some why)
-    → (IsKnown work old new → outside_of new ≡ outside_of old)
+    → (IsKnown work old new → SameOutside (outside_of old) (outside_of new))
     → (IsKnown work old new → work.may_stand (outside_of old) (outside_of new))
     → (status_of why ≡ 5 → RefusingDrives work old.rack new.rack (fault_line why))
     → Ends (fault_line why) (status_of why) old.out new.out status
@@ -248,7 +253,7 @@ refused_for : (work : Work) (name : List ℕ) (old new : World) (why : Fault) (s
 refused_for work name old new why status words number rack works first same left drives ends =
     settled work name old new (fault_line why) (status_of why) status (inr (inr (inr number))) rack works
     (λ d. subst (λ (o : Option Fault). AnswersBy o work.done (outside_of old) (outside_of new) (fault_line why) (status_of why)) (sym (first d))
-    (record { files = ap (λ (o : Outside). o.files) (same d); views = ap (λ (o : Outside). o.views) (same d); line = refl; number = refl }))
+    (record { files = (same d).files; views = (same d).views; line = refl; number = refl }))
     left
     (λ other e known. ⊎_elim (λ two. absurd (words (outside_of old) other e two)) (λ d. ap status_of (some_same other why (sym e ∙ first d))) known)
     (λ h. ⊎_elim
@@ -263,7 +268,7 @@ refused_for work name old new why status words number rack works first same left
 pub refused : (work : Work) (name : List ℕ) (old new : World) (why : Fault) (status : ℕ)
     → NotOfWords work → status_of why ≡ 3 → OfRack work old.rack new.rack → WorksOn name old.desk new.desk false false
     → (IsKnown work old new → work.refusal (outside_of old) ≡ Some why)
-    → (IsKnown work old new → outside_of new ≡ outside_of old)
+    → (IsKnown work old new → SameOutside (outside_of old) (outside_of new))
     → (IsKnown work old new → work.may_stand (outside_of old) (outside_of new))
     → Ends (fault_line why) (status_of why) old.out new.out status
     → IsRun work old new status
@@ -276,7 +281,7 @@ pub refused_by_drives : (work : Work) (name : List ℕ) (old new : World) (why :
     → NotOfWords work → IsTrue work.uses_drives → status_of why ≡ 5 → RaisedCount why old.rack new.rack
     → OfRack work old.rack new.rack → WorksOn name old.desk new.desk false false
     → (IsKnown work old new → work.refusal (outside_of old) ≡ Some why)
-    → (IsKnown work old new → outside_of new ≡ outside_of old)
+    → (IsKnown work old new → SameOutside (outside_of old) (outside_of new))
     → (IsKnown work old new → work.may_stand (outside_of old) (outside_of new))
     → Ends (fault_line why) (status_of why) old.out new.out status
     → IsRun work old new status

@@ -4,5 +4,7 @@ mod Creates
 mod Endings
 mod Fixes
 mod HeadFaults
+mod MediumFaults
+mod Readings
 mod Scans
 mod Verifies

@@ -1,11 +1,10 @@
 -- What holds of a run that scans a medium, by how the scan and the last text ended.
-use Rattle.std.proofs.Common.{◌≡◌, ◌&&◌, ◌==◌, ◌⊎◌, ℕ, List, [], refl, sym, subst, ap, ◌∙◌, inl, inr, arith, true, false, length, Bor}
-use Rattle.std.specs.Prelude.{IsTrue, IsOkAnd, Option, Some, None, Result, Ok, Err}
+use Rattle.std.proofs.Common.{◌≡◌, ◌&&◌, ◌==◌, ◌⊎◌, ℕ, List, [], refl, subst, ap, arith, true, false, length, Bor}
+use Rattle.std.specs.Prelude.{IsTrue, IsOkAnd, Option, Some, Result, Ok, Err}
 use Rattle.std.specs.Option.{option_map}
 use Rattle.rs01_outside.proofs.States.{works-reads}
 use Rattle.rs01_outside.specs.DeskState.{OnlyReads}
 use Rattle.rs01_outside.specs.DriveView.{DriveView}
-use Rattle.rs01_outside.specs.Files.{Files}
 use Rattle.rs01_rack.specs.Rack.{AllTell, views_of}
 use Rattle.rs01_rack.specs.declared.refusal.RackRefusal.TheVariants as rack
 use Rattle.rs01_ecchead.specs.declared.opened.EccRefusal.{EccRefusal}
@@ -14,7 +13,6 @@ use Rattle.rs01_linear.specs.Medium.{Found}
 use Rattle.rs01_linear.specs.Refusal.{IsOfMedium, IsOfReading, is_read_fault}
 use Rattle.rs01_linear.specs.declared.refusal.ReadRefusal.{ReadRefusal}
 use Rattle.rs01_linear.specs.declared.refusal.ReadRefusal.TheVariants.{DriveSize, Ecc, OutOfMemory, Rack, ReadFault, WriteFault}
-use Rattle.rs01_report.specs.declared.faults.Fault.{Fault}
 use Rattle.rs01_report.specs.declared.reports.ScanReport.{ScanReport}
 use Rattle.rs01_report.specs.Faults.{fault_line, status_of}
 use Rattle.rs01_report.specs.Texts.{scan_lines}
@@ -24,46 +22,16 @@ use Rattle.rs01_top.specs.Outside.{Outside, World, outside_of}
 use Rattle.rs01_top.specs.Scan.{HasScanned, MayStandAfterScan, medium_in, scan_work, scanned_status}
 use Rattle.rs01_top.specs.Work.{fault_in}
 use Rattle.rs01_top.specs.Run.{Ends, IsKnown, IsRun, RaisedCount}
-use Rattle.rs01_top.proofs.Endings.{NotOfWords, done, out_of_memory, read_failed, refused, refused_by_drives, some_same, was_asked}
+use Rattle.rs01_top.proofs.Endings.{NotOfWords, SameOutside, done, out_of_memory, read_failed, refused, refused_by_drives, was_asked}
 use Rattle.rs01_top.proofs.HeadFaults.{head_is}
+use Rattle.rs01_top.proofs.MediumFaults.{file_of, not_refused, of_err}
 use Rattle.rs01_top.proofs.Verifies.{none_or_one}
 
 scanned_range : (report : ScanReport) → (scanned_status report ≡ 0) ⊎ (scanned_status report ≡ 1)
 scanned_range report = none_or_one ((length report.unreadable == 0) && (length report.altered == 0)) (scanned_status report) refl
 
-ecc_not_words : (why : EccRefusal) → status_of (ecc_fault why) ≡ 2 → ⊥
-ecc_not_words ecc.NoFile e = omega arith
-ecc_not_words (ecc.Head why) e = omega (arith, head_is why, e)
-ecc_not_words (ecc.Size have want) e = omega arith
-ecc_not_words (ecc.Body have want) e = omega arith
-ecc_not_words ecc.ReadFault e = omega arith
-ecc_not_words ecc.OutOfMemory e = omega arith
-
-not_words : (why : ReadRefusal) → status_of (read_fault why) ≡ 2 → ⊥
-not_words (Ecc why) e = ecc_not_words why e
-not_words (Rack rack.NoDrive) e = omega arith
-not_words (Rack (rack.Failed drive)) e = omega arith
-not_words (Rack (rack.Differ first other)) e = omega arith
-not_words (DriveSize n) e = omega arith
-not_words ReadFault e = omega arith
-not_words WriteFault e = omega arith
-not_words OutOfMemory e = omega arith
-
-of_err : (r : Result Found ReadRefusal) (why : Fault) → fault_in read_fault r ≡ Some why → status_of why ≡ 2 → ⊥
-of_err (Ok medium) why e two = cc
-of_err (Err x) why e two = not_words x (ap status_of (some_same (read_fault x) why e) ∙ two)
-
 not_of_words : (name : Option (List ℕ)) → NotOfWords (scan_work name)
 not_of_words name found why e two = of_err (medium_in name found) why e two
-
--- the file that may be named, by its name
-file_of : (files : Files) (name : Option (Bor (List ℕ))) → option_map (λ (n : Bor (List ℕ)). files n.now) name ≡ option_map files (option_map (λ (n : Bor (List ℕ)). n.now) name)
-file_of files None = refl
-file_of files (Some n) = refl
-
-not_refused : (P : Found → Type 0) (r : Result Found ReadRefusal) → IsOkAnd r P → fault_in read_fault r ≡ None
-not_refused P (Ok medium) p = refl
-not_refused P (Err why) p = absurd p
 
 told_of : (r : Result Found ReadRefusal) (old new : Outside) (report : ScanReport) → new.files ≡ old.files
     → IsOkAnd r (IsScanned old.views new.views report) → IsOkAnd r (HasScanned old new (scan_lines report) (scanned_status report))
@@ -106,14 +74,12 @@ first_of : (name : Option (List ℕ)) (old new : World) (why : ReadRefusal) → 
     → Refused name old new why → IsKnown (scan_work name) old new → (scan_work name).refusal (outside_of old) ≡ Some (read_fault why)
 first_of name old new why of is d = ap (λ (r : Result Found ReadRefusal). fault_in read_fault r) ((is d).first of)
 
-same_outside : (old new : Outside) → new.files ≡ old.files → new.views ≡ old.views → new ≡ old
-same_outside old new files views = λ i. record { files = files i; views = views i }
-
 unchanged : (name : Option (List ℕ)) (old new : World) (why : ReadRefusal) → IsOfMedium why → (IsTrue old.desk.tells → new.desk.files ≡ old.desk.files)
-    → Refused name old new why → IsKnown (scan_work name) old new → outside_of new ≡ outside_of old
-unchanged name old new why of files is d =
-    same_outside (outside_of old) (outside_of new) (files d.0)
-    (subst (λ (r : Result Found ReadRefusal). BreaksOff r (views_of old.rack) (views_of new.rack)) ((is d).first of) (is d).left)
+    → Refused name old new why → IsKnown (scan_work name) old new → SameOutside (outside_of old) (outside_of new)
+unchanged name old new why of files is d = record {
+  files = files d.0;
+  views = subst (λ (r : Result Found ReadRefusal). BreaksOff r (views_of old.rack) (views_of new.rack)) ((is d).first of) (is d).left;
+}
 
 -- the file is refused
 of_file : (name : Option (List ℕ)) (old new : World) (why : EccRefusal) (status : ℕ)

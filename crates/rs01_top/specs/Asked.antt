@@ -1,5 +1,5 @@
 -- The work that words ask for.
-use Rattle.std.specs.Prelude.{ℕ, List, Option, Result, Ok, Err}
+use Rattle.std.specs.Prelude.{ℕ, List, Option, Result, Ok, Err, false, true}
 use Rattle.std.specs.Option.{option_map}
 use Rattle.rs01_report.specs.declared.faults.Fault.{Fault}
 use Rattle.rs01_report.specs.declared.faults.Fault.TheVariants as fault
@@ -12,6 +12,7 @@ use Rattle.rs01_top.specs.Create.{create_work}
 use Rattle.rs01_top.specs.Faults.{word_fault}
 use Rattle.rs01_top.specs.Fix.{fix_work}
 use Rattle.rs01_top.specs.Outside.{Outside}
+use Rattle.rs01_top.specs.Read.{read_work}
 use Rattle.rs01_top.specs.Scan.{scan_work}
 use Rattle.rs01_top.specs.Verify.{verify_work}
 use Rattle.rs01_top.specs.Work.{Work, no_work}
@@ -22,7 +23,9 @@ work_of words (command.Create image ecc parity workers) = create_work (word_at w
 work_of words (command.Fix image ecc workers cut) = fix_work (word_at words image) (word_at words ecc) cut
 work_of words (command.Verify image ecc) = verify_work (word_at words image) (word_at words ecc)
 work_of words (command.Scan ecc drives) = scan_work (option_map (word_at words) ecc)
-work_of words (command.Read image ecc drives adaptive jump tries workers) = no_work fault.NotBuilt
+work_of words (command.Read image ecc drives true jump tries workers) = no_work fault.NotBuilt
+work_of words (command.Read image ecc drives false jump tries workers) =
+    read_work (word_at words image) (option_map (word_at words) ecc) jump tries
 work_of words (command.Demo number sectors parity lost) = no_work fault.NotBuilt
 
 -- where the words are in the grammar, and else none but to tell their fault

@@ -5,5 +5,6 @@ pub mod Create
 pub mod Fix
 pub mod Verify
 pub mod Scan
+pub mod Read
 pub mod Asked
 pub mod Run

@@ -1,5 +1,5 @@
 -- What a run finds and leaves outside of itself.
-use Rattle.std.specs.Prelude.{List}
+use Rattle.std.specs.Prelude.{ℕ, List}
 use Rattle.rs01_outside.specs.DeskState.{DeskState}
 use Rattle.rs01_outside.specs.DriveView.{DriveView}
 use Rattle.rs01_outside.specs.Files.{Files}
@@ -11,6 +11,8 @@ pub record Outside : Type 0 where
   pub files : Files
   -- what each drive means, in order
   pub views : List DriveView
+  -- how many reads were asked of the drives, up to the last value of a u128
+  pub asks : ℕ
 
 -- what a run works on
 pub record World : Type 0 where
@@ -23,7 +25,7 @@ world desk rack out = record { desk = desk; rack = rack; out = out }
 
 -- what a desk and drives tell
 abbrev pub told_by : DeskState → RackState → Outside
-told_by desk rack = record { files = desk.files; views = views_of rack }
+told_by desk rack = record { files = desk.files; views = views_of rack; asks = rack.asks }
 
 abbrev pub outside_of : World → Outside
 outside_of around = told_by around.desk around.rack

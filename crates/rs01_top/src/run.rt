@@ -10,6 +10,7 @@ ghost use Rattle.rs01_top.specs.Run.{IsRun};
 
 use crate::commands::create::run_create;
 use crate::commands::fix::run_fix;
+use crate::commands::read::run_read;
 use crate::commands::scan::run_scan;
 use crate::commands::verify::run_verify;
 use crate::ending::fail;
@@ -83,7 +84,29 @@ fn answer<D: Desk, S: Sink>(
             out,
         ),
         Command::Scan { ecc, .. } => run_scan(alloc, desk, word_if(words, ecc), rack, out),
-        Command::Read { .. } => fail(alloc, &Fault::NotBuilt, out),
+        Command::Read {
+            image,
+            ecc,
+            adaptive,
+            jump,
+            tries,
+            ..
+        } => {
+            if adaptive {
+                return fail(alloc, &Fault::NotBuilt, out);
+            }
+            let ecc = word_if(words, ecc);
+            run_read(
+                alloc,
+                desk,
+                word_at(words, image),
+                ecc,
+                jump,
+                tries,
+                rack,
+                out,
+            )
+        }
         Command::Demo { .. } => fail(alloc, &Fault::NotBuilt, out),
     }
 }
@@ -98,8 +121,8 @@ fn answer<D: Desk, S: Sink>(
 ///
 /// | Status | Where |
 /// |---|---|
-/// | 0 | the command was done; `fix` left no sector lost and found no layer strange; `verify` found no sector missing or altered, and the image's digest to match; `scan` found no sector unreadable or altered |
-/// | 1 | `fix`, `verify` or `scan` was done, and it is otherwise |
+/// | 0 | the command was done; `fix` left no sector lost and found no layer strange; `verify` found no sector missing or altered, and the image's digest to match; `scan` found no sector unreadable or altered; `read` left no sector lost |
+/// | 1 | `fix`, `verify`, `scan` or `read` was done, and it is otherwise |
 /// | 2 | the words aren't in the grammar, or their command isn't built yet |
 /// | 3 | the image isn't there, is empty, has too many sectors, or has a sector that is marked as missing; or the error correction file isn't there or is damaged |
 /// | 4 | a file could not be read or written |

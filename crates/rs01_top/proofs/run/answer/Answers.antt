@@ -3,7 +3,7 @@ use Rattle.rs01_report.specs.declared.faults.Fault.TheVariants.{NotBuilt}
 use Rattle.rs01_top.specs.Create.{create_work}
 use Rattle.rs01_top.specs.Fix.{fix_work}
 use Rattle.rs01_top.specs.Verify.{verify_work}
-use Rattle.rs01_top.proofs.Asks.{as_asked, by_names, word_run}
+use Rattle.rs01_top.proofs.Asks.{as_adaptive, as_asked, by_names, word_run}
 use Rattle.rs01_top.proofs.Endings.{ends_by, not_begun}
 use Rattle.rs01_top.proofs.run.answer.Goals as goal
 
@@ -30,8 +30,11 @@ returns-in-Verify g c = record {
       (by_names verify_work _ _ _ _ _ _ _ c.word_at-in-Verify.ensures c.word_at-in-Verify-2.ensures (c.run_verify.ensures.run _));
 }
 
-pub returns-in-Read : goal.returns-in-Read
-returns-in-Read g c = record { run = as_asked _ _ _ _ _ _ _ c.in-Ok.ensures.answer c.in-Read.is (not_begun NotBuilt _ _ _ _ _ refl c.fail-in-Read.ensures) }
+pub returns-then-adaptive : goal.returns-then-adaptive
+returns-then-adaptive g c = record {
+  run = as_asked _ _ _ _ _ _ _ c.in-Ok.ensures.answer c.in-Read.is
+      (as_adaptive _ _ c.in-Read.drives _ _ _ _ _ _ _ _ c.if-adaptive.true (not_begun NotBuilt _ _ _ _ _ refl c.fail-then-adaptive.ensures));
+}
 
 pub returns-in-Demo : goal.returns-in-Demo
 returns-in-Demo g c = record { run = as_asked _ _ _ _ _ _ _ c.in-Ok.ensures.answer c.in-Demo.is (not_begun NotBuilt _ _ _ _ _ refl c.fail-in-Demo.ensures) }
