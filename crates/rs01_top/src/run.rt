@@ -123,7 +123,7 @@ fn answer<D: Desk, S: Sink>(
 /// |---|---|
 /// | 0 | the command was done; `fix` left no sector lost and found no layer strange; `verify` found no sector missing or altered, and the image's digest to match; `scan` found no sector unreadable or altered; `read` left no sector lost |
 /// | 1 | `fix`, `verify`, `scan` or `read` was done, and it is otherwise |
-/// | 2 | the words aren't in the grammar, or their command isn't built yet |
+/// | 2 | the words aren't in the grammar, or what they ask for isn't built yet |
 /// | 3 | the image isn't there, is empty, has too many sectors, or has a sector that is marked as missing; or the error correction file isn't there or is damaged |
 /// | 4 | a file could not be read or written |
 /// | 5 | there is no drive, one doesn't tell its number of sectors, two differ in it, or a medium without a file has none or too many |

@@ -67,7 +67,7 @@ fn words_that_give_no_work(rt: HostRuntime) -> Result<(), Fail> {
         ("create a b --workers 0", "rs01: word 4: out of range\n"),
         ("create a", "rs01: word 2: something is missing\n"),
         ("create a a", "rs01: word 2: the same name twice\n"),
-        ("read a --drive d", "rs01: not built yet\n"),
+        ("read a --drive d --adaptive", "rs01: not built yet\n"),
         ("demo 1 300 32 40", "rs01: not built yet\n"),
     ] {
         let mut desk = MemoryDesk::new(rt.alloc());
@@ -502,7 +502,21 @@ fn rack_of(
     Rack::new(alloc, drives)
 }
 
-// Runs a line beside the file of an image of so many zeros, and tells the status and whether these bytes were put.
+// Runs a line with drives, and tells the status and whether these bytes were put.
+fn asks(
+    alloc: Global,
+    line: &str,
+    desk: &mut MemoryDesk,
+    rack: &mut Rack,
+    want: &str,
+) -> Result<(u8, bool), AllocError> {
+    let words = words_of(alloc, line)?;
+    let mut out = MemorySink::new(alloc);
+    let status = run_one(alloc, &words, desk, rack, &mut out);
+    Ok((status, out.bytes() == want.as_bytes()))
+}
+
+// The same beside the file of an image of so many zeros.
 fn scans(
     alloc: Global,
     bytes: usize,
@@ -511,10 +525,7 @@ fn scans(
     want: &str,
 ) -> Result<(u8, bool), AllocError> {
     let mut desk = protected(alloc, bytes, 32)?;
-    let words = words_of(alloc, line)?;
-    let mut out = MemorySink::new(alloc);
-    let status = run_one(alloc, &words, &mut desk, rack, &mut out);
-    Ok((status, out.bytes() == want.as_bytes()))
+    asks(alloc, line, &mut desk, rack, want)
 }
 
 #[test]
@@ -664,6 +675,90 @@ fn asks_of_a_scan(rt: HostRuntime) -> Result<(), Fail> {
     let mut rack = no_drives(rt.alloc())?;
     let ran = scans(rt.alloc(), 1, "scan", &mut rack, "rs01: no drive\n")?;
     assert_eq!(rt; ran, (5, true));
+    Ok(())
+}
+
+#[test]
+fn read_media(rt: HostRuntime) -> Result<(), Fail> {
+    // The words; the sector that the drive of 10 fails to read, and where it has a byte that isn't 0; the status, how many
+    // asks there were, one of them, and what is put. The second line reads the image that the first one leaves.
+    let cases: [(
+        &str,
+        (Option<u32>, Option<usize>),
+        u8,
+        u128,
+        (u64, Option<u32>),
+        &str,
+    ); 3] = [
+        (
+            "read new.iso --drive d --jump 4",
+            (Some(3), None),
+            1,
+            7,
+            (4, Some(7)),
+            "read new.iso\nsectors 10\nasked 7\nkept 0\nread 6\nunreadable 1: 3\naltered 0: none\nnot asked 3: 4-6\nrestored 0: none\nlost 4: 3-6\nstrange layers 0\nsurplus bytes 0\n",
+        ),
+        (
+            "read new.iso --drive d",
+            (None, None),
+            0,
+            4,
+            (0, Some(3)),
+            "read new.iso\nsectors 10\nasked 4\nkept 6\nread 4\nunreadable 0: none\naltered 0: none\nnot asked 0: none\nrestored 0: none\nlost 0: none\nstrange layers 0\nsurplus bytes 0\n",
+        ),
+        (
+            "read other.iso disc.ecc --drive d --jump 2",
+            (None, Some(14_336)),
+            1,
+            9,
+            (8, Some(9)),
+            "read other.iso\nsectors 10\nasked 9\nkept 0\nread 8\nunreadable 0: none\naltered 1: 7\nnot asked 1: 8\nrestored 0: none\nlost 2: 7-8\nstrange layers 0\nsurplus bytes 0\n",
+        ),
+    ];
+    let mut desk = protected(rt.alloc(), 20_480, 32)?;
+    for (line, damage, status, number, at, want) in cases {
+        let mut rack = rack_of(rt.alloc(), drive(rt.alloc(), 10, damage.0, damage.1)?, None)?;
+        let ran = asks(rt.alloc(), line, &mut desk, &mut rack, want)?;
+        assert_eq!(rt; ran, (status, true), "{want}");
+        assert_eq!(rt; rack.asks(), number, "{want}");
+        assert!(rt; rack.drives() == 1);
+        if rack.drives() == 1 {
+            assert_eq!(rt; rack.asked_at(0, at.0), at.1, "{want}");
+        }
+    }
+    assert_eq!(rt; size_of(&desk, "new.iso"), Some(20_480));
+    let whole = desk
+        .file("new.iso")
+        .is_some_and(|file| file.iter().all(|byte| *byte == 0));
+    assert!(rt; whole);
+    Ok(())
+}
+
+#[test]
+fn media_that_are_not_read(rt: HostRuntime) -> Result<(), Fail> {
+    let mut desk = MemoryDesk::new(rt.alloc());
+    let mut rack = no_drives(rt.alloc())?;
+    let none = asks(
+        rt.alloc(),
+        "read new.iso",
+        &mut desk,
+        &mut rack,
+        "rs01: no drive\n",
+    )?;
+    assert_eq!(rt; none, (5, true));
+    assert!(rt; desk.file("new.iso").is_none());
+    let mut rack = rack_of(rt.alloc(), drive(rt.alloc(), 10, None, None)?, None)?;
+    desk.fail_write(1);
+    let ran = asks(
+        rt.alloc(),
+        "read new.iso --drive d",
+        &mut desk,
+        &mut rack,
+        "rs01: writing a file failed\n",
+    )?;
+    assert_eq!(rt; ran, (4, true));
+    assert_eq!(rt; size_of(&desk, "new.iso"), Some(20_480));
+    assert_eq!(rt; (rack.asks(), desk.write_faults()), (1, 1));
     Ok(())
 }
 
