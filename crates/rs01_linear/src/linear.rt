@@ -85,6 +85,7 @@ pub fn read_linear<D: Desk>(
     requires manner { IsManner jump tries }
     ensures works { WorksBy image.now (D.state desk.old) (D.state desk.new) result }
     ensures lasts { OnRack ⟦<dyn Drive as Drive>⟧ RackLasts rack.old rack.new }
+    ensures causes { IfErr result TellsFaults }
     ensures unreadable { OnRack ⟦<dyn Drive as Drive>⟧ (UnreadableRose result) rack.old rack.new }
     ensures refused { OnRack ⟦<dyn Drive as Drive>⟧ (RefusesBy result) rack.old rack.new }
     ensures told { let given = option_map (λ name. (D.state desk.old).files name.now) ecc.entry in
