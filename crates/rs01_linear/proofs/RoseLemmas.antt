@@ -1,5 +1,5 @@
 -- How the drives' counts rose for the sectors that no drive answered for.
-use Rattle.std.proofs.Common.{◌≡◌, ℕ, zero, suc, ◌+◌, ◌-◌, ◌<◌, ◌≤◌, ◌^◌, ◌∙◌, ap, arith, sym, refl, subst, Bool, true, false, cond, Some, List, [], ◌∷◌, ◌++◌, length, count_by, get_or}
+use Rattle.std.proofs.Common.{◌≡◌, ℕ, zero, suc, ◌+◌, ◌<◌, ◌≤◌, ◌^◌, ◌∙◌, ap, arith, sym, refl, subst, Bool, false, cond, Some, List, [], ◌∷◌, ◌++◌, length, count_by, get_or}
 use Rattle.std.specs.Prelude.{Option, slice_get}
 use Rattle.std.specs.List.{range_with_len}
 use Rattle.std.specs.Option.{option_map_or}
@@ -23,7 +23,6 @@ use Rattle.rs01_linear.specs.declared.asking.Asked.TheVariants as asked
 use Rattle.rs01_linear.specs.declared.fate.Fate.{Fate}
 use Rattle.rs01_linear.specs.declared.fate.Fate.TheVariants.{LeftOut}
 use Rattle.rs01_linear.specs.declared.reading.Reading.{Reading}
-use Rattle.rs01_linear.specs.declared.telling.Told.{Told}
 use Rattle.rs01_linear.specs.declared.telling.Told.TheVariants as told
 use Rattle.rs01_linear.proofs.LastingLemmas.{drive_there, lasts_then, rack_lasts}
 
