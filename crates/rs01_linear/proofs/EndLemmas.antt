@@ -17,7 +17,7 @@ use Rattle.rs01_linear.specs.declared.medium.Medium.{Medium}
 use Rattle.rs01_linear.specs.declared.refusal.ReadRefusal.{ReadRefusal}
 use Rattle.rs01_linear.specs.declared.refusal.ReadRefusal.TheVariants.{DriveSize, Ecc, OutOfMemory, Rack, ReadFault, WriteFault}
 
-ok_and : (result : Result Found ReadRefusal) (P Q : Found → Type 0) → IsOkAnd result P → ((f : Found) → P f → Q f) → IsOkAnd result Q
+pub ok_and : (result : Result Found ReadRefusal) (P Q : Found → Type 0) → IsOkAnd result P → ((f : Found) → P f → Q f) → IsOkAnd result Q
 ok_and (Ok f) P Q is more = more f is
 ok_and (Err why) P Q is more = absurd is
 

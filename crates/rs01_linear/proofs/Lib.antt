@@ -14,3 +14,5 @@ mod RunLemmas
 mod StandLemmas
 mod TellLemmas
 pub mod RoseLemmas
+mod SpareLemmas
+mod StayLemmas

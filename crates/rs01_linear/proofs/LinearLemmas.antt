@@ -31,7 +31,7 @@ mixed_seam front rest other m long = ap (λ k. take k (front ++ rest) ++ drop m 
 drop_seam : (front rest : List ℕ) (m : ℕ) → length front ≡ m → drop m (front ++ rest) ≡ rest
 drop_seam front rest m long = ap (λ k. drop k (front ++ rest)) (sym long) ∙ drop-append_seam front rest
 
-front_long : (known : Known) (y : List ℕ) → Sized known → length (flat_map (marked_sector known y) (range_with_len 0 known.sectors)) ≡ image_len known
+pub front_long : (known : Known) (y : List ℕ) → Sized known → length (flat_map (marked_sector known y) (range_with_len 0 known.sectors)) ≡ image_len known
 front_long known y sized = length-front known (marked_sector known y) known.sectors sized (marked_fills known y sized) (omega arith) ∙ place_end known sized
 
 -- once all sectors are marked, the file is the marked one

@@ -8,6 +8,7 @@ use Rattle.rs01_rack.specs.Rack.{AllTell, RackState}
 use Rattle.rs01_ecchead.specs.Erased.{Known}
 use Rattle.rs01_linear.specs.Course.{Manner}
 use Rattle.rs01_linear.specs.Lasting.{RackLasts}
+use Rattle.rs01_linear.specs.Spared.{Guards}
 use Rattle.rs01_linear.specs.Standing.{Halted, Halts, Keeps, PassesAll, Stands}
 use Rattle.rs01_linear.specs.declared.reading.Reading.{Reading}
 use Rattle.rs01_linear.proofs.LastingLemmas.{told_before}
@@ -20,6 +21,7 @@ pub record SoFar (known : Known) (manner : Manner) (name : List ℕ) (s : ℕ) (
   pub told :
       (y : List ℕ) (views : List DriveView) → IsTrue desk.tells → AllTell rack' → Stands known manner y views 0 rack reading (desk.files name)
       → Stands known manner y views s rack' reading' (desk'.files name)
+  pub stays : (y : List ℕ) → IsTrue desk.tells → Guards known y reading.fates.items (desk.files name) → Guards known y reading'.fates.items (desk'.files name)
 
 -- one sector more
 pub so_far_more : (known : Known) (manner : Manner) (name : List ℕ) (s : ℕ) (desk desk' desk'' : DeskState) (rack rack' rack'' : RackState) (reading reading' reading'' : Reading)
@@ -27,11 +29,13 @@ pub so_far_more : (known : Known) (manner : Manner) (name : List ℕ) (s : ℕ) 
     → WorksOn name desk' desk'' false false → Keeps reading' reading'' rack' rack''
     → ((y : List ℕ) (views : List DriveView) → IsTrue desk'.tells → AllTell rack'' → Stands known manner y views s rack' reading' (desk'.files name)
     → Stands known manner y views (s + 1) rack'' reading'' (desk''.files name))
+    → ((y : List ℕ) → IsTrue desk'.tells → Guards known y reading'.fates.items (desk'.files name) → Guards known y reading''.fates.items (desk''.files name))
     → SoFar known manner name (s + 1) desk desk'' rack rack'' reading reading''
-so_far_more known manner name s desk desk' desk'' rack rack' rack'' reading reading' reading'' so works kept step = record {
+so_far_more known manner name s desk desk' desk'' rack rack' rack'' reading reading' reading'' so works kept step stays = record {
   works = works-then name desk desk' desk'' false false so.works works;
   kept = keeps_then reading reading' reading'' rack rack' rack'' so.kept kept;
   told = λ y views t tell st. step y views (subst IsTrue (sym so.works.tells) t) tell (so.told y views t (told_before rack' rack'' kept.lasts tell) st);
+  stays = λ y t guards. stays y (subst IsTrue (sym so.works.tells) t) (so.stays y t guards);
 }
 
 -- the next one wasn't passed

@@ -11,3 +11,4 @@ pub mod Standing
 pub mod Report
 pub mod Outcome
 pub mod Linear
+pub mod Spared

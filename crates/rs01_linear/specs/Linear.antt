@@ -1,5 +1,5 @@
 -- Reading a medium into an image: how the image file is got ready.
-use Rattle.std.specs.Prelude.{ℕ, ◌≡◌, ◌⊎◌, IsTrue, List, [], Option, Some, None, Result, Ok, Err, length}
+use Rattle.std.specs.Prelude.{ℕ, ◌≡◌, ◌⊎◌, IsSomeAnd, IsTrue, List, [], Option, Some, None, Result, Ok, Err, length}
 use Rattle.std.specs.Option.{unwrap_or}
 use Rattle.rs01_linear.specs.Left.{first_fates, marked, mixed}
 use Rattle.rs01_linear.specs.Marking.{IsMixed, place}
@@ -9,6 +9,7 @@ use Rattle.rs01_rack.specs.Rack.{AllTell, RackState}
 use Rattle.rs01_report.specs.declared.reports.ReadReport.{ReadReport}
 use Rattle.rs01_linear.specs.Course.{Manner}
 use Rattle.rs01_linear.specs.Outcome.{IsLeftAt, IsReadInto}
+use Rattle.rs01_linear.specs.Spared.{Guards, Spares}
 use Rattle.rs01_linear.specs.declared.prepared.Prepared.{Prepared}
 use Rattle.rs01_linear.specs.declared.refusal.ReadRefusal.{ReadRefusal}
 
@@ -32,8 +33,10 @@ abbrev pub ReadsPrepared : Known → Manner → Option (List ℕ) → (old new :
 ReadsPrepared known manner before old new file (Ok told) = IsReadInto known manner (unwrap_or before []) old new file told
 ReadsPrepared known manner before old new file (Err why) = IsLeftAt known manner (unwrap_or before []) old new before file
 
--- the same where the desk and the drives tell, from whatever image file was got ready
-abbrev pub TellsPrepared : Known → Manner → List ℕ → Prepared → (desk desk' : DeskState) → Result ReadReport ReadRefusal → (old new : RackState) → Type 0
-TellsPrepared known manner name prepared desk desk' result old new =
-    (before : Option (List ℕ)) → IsTrue desk.tells → AllTell new → IsPrepared known before (desk.files name) prepared
-    → ReadsPrepared known manner before old new (desk'.files name) result
+-- the same where the desk and the drives tell, from whatever image file was got ready, and where the desk alone tells, what
+-- is good in the file stays
+pub record TellsPrepared (known : Known) (manner : Manner) (name : List ℕ) (prepared : Prepared) (desk desk' : DeskState) (result : Result ReadReport ReadRefusal) (old new : RackState) : Type 0 where
+  pub reads :
+      (before : Option (List ℕ)) → IsTrue desk.tells → AllTell new → IsPrepared known before (desk.files name) prepared
+      → ReadsPrepared known manner before old new (desk'.files name) result
+  pub stays : (y : List ℕ) → IsTrue desk.tells → Guards known y prepared.fates.items (desk.files name) → IsSomeAnd (desk'.files name) (Spares known y)

@@ -1,5 +1,6 @@
 -- What is known of the medium in the drives before a sector is asked for.
-use Rattle.std.specs.Prelude.{ℕ, ◌≡◌, ◌==◌, ◌||◌, ◌<◌, ◌⊎◌, nat_lt, if◌then◌else◌, List, [], Option, Some, None, Result, Ok, Err, IsOkAnd, IsSomeAnd, IsTrue}
+use Rattle.std.specs.Prelude.{ℕ, ◌≡◌, ◌==◌, ◌||◌, ◌<◌, ◌⊎◌, nat_lt, if◌then◌else◌, List, [], Option, Some, None, Result, Ok, Err, IsOkAnd, IsSomeAnd, IsTrue, IfOk}
+use Rattle.std.specs.Borrow.{Bor}
 use Rattle.std.specs.Option.{option_map, unwrap_or}
 use Rattle.rs01_outside.specs.DeskState.{DeskState}
 use Rattle.rs01_outside.specs.DriveView.{DriveView}
@@ -61,9 +62,22 @@ abbrev pub IsFound : Option (Option (List ℕ)) → List DriveView → Result Me
 IsFound file views (Ok medium) = IsOkAnd (found file views) (IsMedium file medium)
 IsFound file views (Err why) = IsOfMedium why → found file views ≡ Err why
 
+-- the bytes of the error correction file, where its name is given
+abbrev pub file_given : DeskState → Option (Bor (List ℕ)) → Option (Option (List ℕ))
+file_given desk ecc = option_map (λ name. desk.files name.now) ecc
+
 -- the same where the desk and the drives tell
-abbrev pub TellsFound : Option (Option (List ℕ)) → DeskState → Result Medium ReadRefusal → (old new : RackState) → Type 0
-TellsFound file desk answer old new = IsTrue desk.tells → AllTell new → IsFound file (views_of old) answer
+abbrev pub TellsFound : DeskState → Option (Bor (List ℕ)) → Result Medium ReadRefusal → (old new : RackState) → Type 0
+TellsFound desk ecc answer old new = IsTrue desk.tells → AllTell new → IsFound (file_given desk ecc) (views_of old) answer
+
+-- what is known comes from the file that is given, and else is so many whole sectors
+abbrev pub IsKnownBy : Option (Option (List ℕ)) → Known → Type 0
+IsKnownBy None known = (n : ℕ) × (known ≡ plain n)
+IsKnownBy (Some file) known = IsOkAnd (opened_file file) (λ c. known ≡ known_by c)
+
+-- that of a medium, where the desk tells, whatever the drives tell
+abbrev pub TellsKnown : DeskState → Option (Bor (List ℕ)) → Result Medium ReadRefusal → Type 0
+TellsKnown desk ecc answer = IsTrue desk.tells → IfOk answer (λ medium. IsKnownBy (file_given desk ecc) (known_of medium))
 
 -- an error correction file that may be given is opened, or told why not
 abbrev pub OpensGiven : Option (Option (List ℕ)) → Result (Option Ecc) ReadRefusal → Type 0

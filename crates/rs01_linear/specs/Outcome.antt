@@ -1,5 +1,6 @@
 -- What a reading into a named image leaves and answers. The image file before is y, and none where it wasn't there.
 use Rattle.std.specs.Prelude.{ℕ, ◌≡◌, ◌≤◌, ◌⊎◌, ◌-◌, ◌^◌, List, [], Option, Some, Result, Ok, Err, IsOk, IsOkAnd, IsSomeAnd, IsTrue, length, min}
+use Rattle.std.specs.Borrow.{Bor}
 use Rattle.std.specs.Option.{unwrap_or}
 use Rattle.rs01_outside.specs.DeskState.{DeskState}
 use Rattle.rs01_rack.specs.Counting.{GivesNumber, HasCause}
@@ -9,7 +10,7 @@ use Rattle.rs01_report.specs.declared.reports.ReadReport.{ReadReport}
 use Rattle.rs01_linear.specs.Course.{Manner, read_to, whole_reading}
 use Rattle.rs01_linear.specs.Lasting.{AllRoseBy}
 use Rattle.rs01_linear.specs.Left.{IsOnTheWay, image_left, marked}
-use Rattle.rs01_linear.specs.Medium.{IsUnfit, found}
+use Rattle.rs01_linear.specs.Medium.{IsUnfit, file_given, found}
 use Rattle.rs01_linear.specs.Refusal.{IsOfMedium, writes_badly}
 use Rattle.rs01_linear.specs.Report.{report_of}
 use Rattle.rs01_linear.specs.declared.refusal.ReadRefusal.{ReadRefusal}
@@ -51,9 +52,9 @@ Reads given manner old new before file (Ok told) = IsOkAnd (found given (views_o
 Reads given manner old new before file (Err why) = IsUnread given manner old new before file why
 
 -- the same of a reading into the named image, and only there where both tell
-abbrev pub TellsReading : Option (Option (List ℕ)) → Manner → List ℕ → (desk desk' : DeskState) → Result ReadReport ReadRefusal → (old new : RackState) → Type 0
-TellsReading given manner name desk desk' result old new =
-    IsTrue desk.tells → AllTell new → Reads given manner old new (desk.files name) (desk'.files name) result
+abbrev pub TellsReading : (desk desk' : DeskState) → Option (Bor (List ℕ)) → Manner → List ℕ → Result ReadReport ReadRefusal → (old new : RackState) → Type 0
+TellsReading desk desk' ecc manner name result old new =
+    IsTrue desk.tells → AllTell new → Reads (file_given desk ecc) manner old new (desk.files name) (desk'.files name) result
 
 -- a refusal of the drives, whether they tell or not: what they gave, and with which cause
 abbrev pub RefusesBy : {T : Type 0} → Result T ReadRefusal → RackState → RackState → Type 0

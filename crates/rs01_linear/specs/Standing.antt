@@ -9,6 +9,7 @@ use Rattle.rs01_linear.specs.Lasting.{AllRoseBy, RackLasts}
 use Rattle.rs01_linear.specs.Left.{first_fates, image_left, marked, mixed}
 use Rattle.rs01_linear.specs.Marking.{IsMixed, place}
 use Rattle.rs01_linear.specs.Report.{unread}
+use Rattle.rs01_linear.specs.Spared.{Guards}
 use Rattle.rs01_linear.specs.declared.reading.Reading.{Reading}
 
 -- drives, what is kept and the image file, once the sectors below s were passed
@@ -40,17 +41,20 @@ abbrev pub PassesAll : {T E : Type 0} → Known → Manner → List ℕ → List
 PassesAll known manner y views rack reading file (Ok value) = Stands known manner y views known.sectors rack reading file
 PassesAll known manner y views rack reading file (Err why) = Halted known manner y views rack file
 
--- how passing sector s ends, where the desk and the drives tell, from wherever the reading stood
-abbrev pub TellsPass : {T E : Type 0} → Known → ℕ → Manner → List ℕ → (desk desk' : DeskState) → (was is : Reading) → Result T E → (old new : RackState) → Type 0
-TellsPass known s manner name desk desk' was is result old new =
-    (y : List ℕ) (views : List DriveView) → IsTrue desk.tells → AllTell new → Stands known manner y views s old was (desk.files name)
-    → Passes known manner y views s new is (desk'.files name) result
+-- how passing sector s ends, where the desk tells: as it should where the drives tell too, from wherever the reading
+-- stood, and in any case what is good in the file stays
+pub record TellsPass {T E : Type 0} (known : Known) (s : ℕ) (manner : Manner) (name : List ℕ) (desk desk' : DeskState) (was is : Reading) (result : Result T E) (old new : RackState) : Type 0 where
+  pub stands :
+      (y : List ℕ) (views : List DriveView) → IsTrue desk.tells → AllTell new → Stands known manner y views s old was (desk.files name)
+      → Passes known manner y views s new is (desk'.files name) result
+  pub stays : (y : List ℕ) → IsTrue desk.tells → Guards known y was.fates.items (desk.files name) → Guards known y is.fates.items (desk'.files name)
 
 -- the same of passing all sectors, from the first one on
-abbrev pub TellsPasses : {T E : Type 0} → Known → Manner → List ℕ → (desk desk' : DeskState) → (was is : Reading) → Result T E → (old new : RackState) → Type 0
-TellsPasses known manner name desk desk' was is result old new =
-    (y : List ℕ) (views : List DriveView) → IsTrue desk.tells → AllTell new → Stands known manner y views 0 old was (desk.files name)
-    → PassesAll known manner y views new is (desk'.files name) result
+pub record TellsPasses {T E : Type 0} (known : Known) (manner : Manner) (name : List ℕ) (desk desk' : DeskState) (was is : Reading) (result : Result T E) (old new : RackState) : Type 0 where
+  pub stands :
+      (y : List ℕ) (views : List DriveView) → IsTrue desk.tells → AllTell new → Stands known manner y views 0 old was (desk.files name)
+      → PassesAll known manner y views new is (desk'.files name) result
+  pub stays : (y : List ℕ) → IsTrue desk.tells → Guards known y was.fates.items (desk.files name) → Guards known y is.fates.items (desk'.files name)
 
 -- what passing sectors keeps, whatever is told: the drives, how many sectors there are, and that each one that no drive
 -- answered for raised each drive's count

@@ -1,6 +1,6 @@
 //! Reading a medium into an image, in rising order.
 ghost use Rattle.std.specs.Prelude.{◌≡◌, ◌≢◌, ◌≤◌, ◌-◌, ◌^◌, IfErr, length, min};
-ghost use Rattle.std.specs.Option.{ForSome, option_map};
+ghost use Rattle.std.specs.Option.{ForSome};
 ghost use Rattle.rs01_linear.specs.Course.{IsManner};
 ghost use Rattle.rs01_linear.specs.Lasting.{RackLasts};
 ghost use Rattle.rs01_linear.specs.Linear.{TellsPrepared};
@@ -8,6 +8,7 @@ ghost use Rattle.rs01_linear.specs.Medium.{known_of};
 ghost use Rattle.rs01_linear.specs.Outcome.{RefusesBy, TellsReading, UnreadableRose};
 ghost use Rattle.rs01_linear.specs.Racks.{OnRack, seen_by};
 ghost use Rattle.rs01_linear.specs.Report.{IsFresh};
+ghost use Rattle.rs01_linear.specs.Spared.{StaysGood};
 ghost use Rattle.rs01_linear.specs.Refusal.{IsOfWork, TellsFaults, WorksBy};
 
 use crate::medium::Medium;
@@ -72,6 +73,10 @@ fn read_prepared<D: Desk>(
 /// The refusals of the file and of the drives come first, in this order, and nothing has changed then. After a fault or
 /// want of memory the drives were asked for the first sectors alone, and the image file is as it was, or its first bytes
 /// are those of the marked file, or of the one that the whole reading leaves, and the others are those before.
+///
+/// Whatever the drives give and however it ends, the image file isn't shorter than before, and the sectors that it had
+/// good and the bytes past the image are the same. Each sector that is told to be unreadable raised the count of faults of
+/// each drive.
 pub fn read_linear<D: Desk>(
     alloc: Global,
     rack: &mut Rack,
@@ -88,9 +93,10 @@ pub fn read_linear<D: Desk>(
     ensures causes { IfErr result TellsFaults }
     ensures unreadable { OnRack ⟦<dyn Drive as Drive>⟧ (UnreadableRose result) rack.old rack.new }
     ensures refused { OnRack ⟦<dyn Drive as Drive>⟧ (RefusesBy result) rack.old rack.new }
-    ensures told { let given = option_map (λ name. (D.state desk.old).files name.now) ecc.entry in
-        OnRack ⟦<dyn Drive as Drive>⟧ (TellsReading given (record { jump = jump; tries = tries })
-        image.now (D.state desk.old) (D.state desk.new) result) rack.old rack.new }
+    ensures told { OnRack ⟦<dyn Drive as Drive>⟧ (TellsReading (D.state desk.old) (D.state desk.new)
+        ecc.entry (record { jump = jump; tries = tries }) image.now result) rack.old rack.new }
+    ensures stays { OnRack ⟦<dyn Drive as Drive>⟧ (StaysGood (D.state desk.old) (D.state desk.new)
+        ecc.entry image.now) rack.old rack.new }
 {
     let medium = open_medium(alloc, desk, ecc, rack)?;
     let prepared = prepare(alloc, desk, image, &medium)?;

@@ -1,8 +1,7 @@
 //! Opening a medium.
 ghost use Rattle.std.specs.Prelude.{◌≡◌, ◌≤◌, IfErr, IsTrue, false, length};
-ghost use Rattle.std.specs.Option.{option_map};
 ghost use Rattle.rs01_outside.specs.DeskState.{OnlyReads};
-ghost use Rattle.rs01_linear.specs.Medium.{Finds, MakesMedium, OpensGiven, TellsFound};
+ghost use Rattle.rs01_linear.specs.Medium.{Finds, MakesMedium, OpensGiven, TellsFound, TellsKnown, file_given};
 ghost use Rattle.rs01_linear.specs.Racks.{OnRack};
 ghost use Rattle.rs01_linear.specs.Refusal.{IsOfOpening, IsOfReading, is_read_fault, is_write_fault};
 
@@ -22,7 +21,7 @@ fn open_given<D: Desk>(
 ) -> Result<Option<Ecc>, ReadRefusal>
     ensures reads { OnlyReads (D.state desk.old) (D.state desk.new) (is_read_fault result) }
     ensures told { IsTrue (D.state desk.old).tells
-        → OpensGiven (option_map (λ name. (D.state desk.old).files name.now) ecc.entry) result }
+        → OpensGiven (file_given (D.state desk.old) ecc.entry) result }
     ensures causes { IfErr result IsOfOpening }
 {
     let Some(name) = ecc else {
@@ -70,9 +69,9 @@ pub fn open_medium<D: Desk>(
     ensures reads { OnlyReads (D.state desk.old) (D.state desk.new) (is_read_fault result) }
     ensures no_write { is_write_fault result ≡ false }
     ensures asked { OnRack ⟦<dyn Drive as Drive>⟧ (Finds result) rack.old rack.new }
-    ensures told { let given = option_map (λ name. (D.state desk.old).files name.now) ecc.entry in
-        let finds = TellsFound given (D.state desk.old) result in
+    ensures told { let finds = TellsFound (D.state desk.old) ecc.entry result in
         OnRack ⟦<dyn Drive as Drive>⟧ finds rack.old rack.new }
+    ensures opened { TellsKnown (D.state desk.old) ecc.entry result }
     ensures causes { IfErr result IsOfReading }
 {
     let opened = open_given(alloc, desk, ecc)?;

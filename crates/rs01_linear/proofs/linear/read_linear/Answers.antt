@@ -1,10 +1,13 @@
-use Rattle.std.proofs.Common.{◌∙◌, ap, sym, subst}
+use Rattle.std.proofs.Common.{◌∙◌, ap, inl, sym, subst}
 use Rattle.std.specs.Prelude.{Err, IsTrue}
 use Rattle.std.proofs.lemmas.Result.{err_from_is_err_and}
 use Rattle.rs01_outside.specs.Files.{Files}
+use Rattle.rs01_linear.specs.Medium.{known_of}
 use Rattle.rs01_linear.specs.Refusal.{IsOfWork}
 use Rattle.rs01_linear.proofs.EndLemmas.{ends_left, ends_read, ends_unopened, ends_unprepared}
 use Rattle.rs01_linear.proofs.LastingLemmas.{lasts_then, told_before}
+use Rattle.rs01_linear.proofs.MarkLemmas.{sized_by}
+use Rattle.rs01_linear.proofs.StayLemmas.{guards_prepared, spared, spared_unprepared}
 use Rattle.rs01_linear.proofs.RoseLemmas.{rose_after}
 use Rattle.rs01_linear.proofs.linear.read_linear.Goals as goal
 
@@ -31,7 +34,7 @@ returns-in_err-read_prepared-clause-told g c = λ t tell.
     let still = ap (λ (f : Files). f c.args.image.now) (c.in_ok-medium.ensures.reads.unchanged t) in
     ends_left _ _ c.in_ok-medium.medium _ _ _ _ _ _ c.from_residual-in_err-read_prepared.result p.0 p.1 (subst IsOfWork (sym p.2) c.in_err-read_prepared.ensures.causes)
     (c.in_ok-medium.ensures.told t tell1) (c.in_ok-medium.ensures.asked.same tell1) still
-    (c.in_err-read_prepared.ensures.told _ t2 tell (c.in_ok-prepared.ensures.told t1))
+    (c.in_err-read_prepared.ensures.told.reads _ t2 tell (c.in_ok-prepared.ensures.told t1))
 
 pub returns-clause-told : goal.returns-clause-told
 returns-clause-told g c = λ t tell.
@@ -41,7 +44,7 @@ returns-clause-told g c = λ t tell.
     let still = ap (λ (f : Files). f c.args.image.now) (c.in_ok-medium.ensures.reads.unchanged t) in
     ends_read _ _ c.in_ok-medium.medium _ _ _ _ _ _ c.in_ok-read_prepared.field-0
     (c.in_ok-medium.ensures.told t tell1) (c.in_ok-medium.ensures.asked.same tell1) c.in_ok-medium.ensures.asked.asks still
-    (c.in_ok-read_prepared.ensures.told _ t2 tell (c.in_ok-prepared.ensures.told t1))
+    (c.in_ok-read_prepared.ensures.told.reads _ t2 tell (c.in_ok-prepared.ensures.told t1))
 
 pub returns-clause-unreadable : goal.returns-clause-unreadable
 returns-clause-unreadable g c = rose_after _ _ _ _ c.in_ok-medium.ensures.asked.lasts c.in_ok-read_prepared.ensures.unreadable
@@ -52,3 +55,34 @@ returns-in_err-medium-clause-told g c = λ t tell.
     let still = ap (λ (f : Files). f c.args.image.now) (c.in_err-medium.ensures.reads.unchanged t) in
     ends_unopened _ _ _ _ _ _ c.from_residual.result _ (p.1 ∙ ap Err p.2) c.in_err-medium.ensures.causes
     (c.in_err-medium.ensures.told t tell) (c.in_err-medium.ensures.asked.same tell) still
+
+pub returns-in_err-medium-clause-stays : goal.returns-in_err-medium-clause-stays
+returns-in_err-medium-clause-stays g c = λ t. inl (ap (λ (f : Files). f c.args.image.now) (c.in_err-medium.ensures.reads.unchanged t))
+
+pub returns-in_err-prepared-clause-stays : goal.returns-in_err-prepared-clause-stays
+returns-in_err-prepared-clause-stays g c = λ t.
+    let t1 = subst IsTrue (sym c.in_ok-medium.ensures.reads.tells) t in
+    let still = ap (λ (f : Files). f c.args.image.now) (c.in_ok-medium.ensures.reads.unchanged t) in
+    spared_unprepared _ c.in_ok-medium.medium _ _ _ _ _ still (c.in_err-prepared.ensures.told t1) (c.in_ok-medium.ensures.opened t) (c.in_ok-medium.ensures.told t)
+
+pub returns-in_err-read_prepared-clause-stays : goal.returns-in_err-read_prepared-clause-stays
+returns-in_err-read_prepared-clause-stays g c = λ t.
+    let t1 = subst IsTrue (sym c.in_ok-medium.ensures.reads.tells) t in
+    let t2 = subst IsTrue (sym c.in_ok-prepared.ensures.works.tells) t1 in
+    let still = ap (λ (f : Files). f c.args.image.now) (c.in_ok-medium.ensures.reads.unchanged t) in
+    spared _ c.in_ok-medium.medium _ _ _ _ _ still
+    (c.in_err-read_prepared.ensures.told.stays _ t2
+    (guards_prepared (known_of c.in_ok-medium.medium) _ _ c.in_ok-prepared.prepared (sized_by c.in_ok-medium.medium.extent _) (c.in_ok-prepared.ensures.told t1)))
+    (c.in_ok-medium.ensures.opened t)
+    (λ tell. c.in_ok-medium.ensures.told t (told_before _ _ c.in_err-read_prepared.ensures.lasts tell))
+
+pub returns-clause-stays : goal.returns-clause-stays
+returns-clause-stays g c = λ t.
+    let t1 = subst IsTrue (sym c.in_ok-medium.ensures.reads.tells) t in
+    let t2 = subst IsTrue (sym c.in_ok-prepared.ensures.works.tells) t1 in
+    let still = ap (λ (f : Files). f c.args.image.now) (c.in_ok-medium.ensures.reads.unchanged t) in
+    spared _ c.in_ok-medium.medium _ _ _ _ _ still
+    (c.in_ok-read_prepared.ensures.told.stays _ t2
+    (guards_prepared (known_of c.in_ok-medium.medium) _ _ c.in_ok-prepared.prepared (sized_by c.in_ok-medium.medium.extent _) (c.in_ok-prepared.ensures.told t1)))
+    (c.in_ok-medium.ensures.opened t)
+    (λ tell. c.in_ok-medium.ensures.told t (told_before _ _ c.in_ok-read_prepared.ensures.lasts tell))

@@ -8,23 +8,32 @@ use Rattle.rs01_linear.proofs.RoseLemmas.{rose_told}
 use Rattle.rs01_linear.proofs.linear.read_prepared.Goals as goal
 
 pub returns-in_err-read_sectors-clause-told : goal.returns-in_err-read_sectors-clause-told
-returns-in_err-read_sectors-clause-told g c = λ before t tell ready.
-    let p = err_from_is_err_and c.from_residual.result c.from_residual.ensures.1 in
-    left_halted (known_of c.args.medium.now) _ before _ _ _ c.from_residual.result p.0 p.1
-    (c.in_err-read_sectors.ensures.told _ _ t tell (stands_start (known_of c.args.medium.now) _ before _ _ c.args.prepared _ (sized_by c.args.medium.now.extent _) refl refl ready))
+returns-in_err-read_sectors-clause-told g c = record {
+  reads = λ before t tell ready.
+      let p = err_from_is_err_and c.from_residual.result c.from_residual.ensures.1 in
+      left_halted (known_of c.args.medium.now) _ before _ _ _ c.from_residual.result p.0 p.1
+      (c.in_err-read_sectors.ensures.told.stands _ _ t tell (stands_start (known_of c.args.medium.now) _ before _ _ c.args.prepared _ (sized_by c.args.medium.now.extent _) refl refl ready));
+  stays = λ y t guards. (c.in_err-read_sectors.ensures.told.stays y t guards).file_is;
+}
 
 pub returns-in_err-report-clause-told : goal.returns-in_err-report-clause-told
-returns-in_err-report-clause-told g c = λ before t tell ready.
-    let p = err_from_is_err_and c.from_residual-in_err-report.result c.from_residual-in_err-report.ensures.1 in
-    left_lacking (known_of c.args.medium.now) _ before _ _ _ _ c.from_residual-in_err-report.result p.0 p.1
-    (c.in_ok-read_sectors.ensures.told _ _ t tell (stands_start (known_of c.args.medium.now) _ before _ _ c.args.prepared _ (sized_by c.args.medium.now.extent _) refl refl ready))
+returns-in_err-report-clause-told g c = record {
+  reads = λ before t tell ready.
+      let p = err_from_is_err_and c.from_residual-in_err-report.result c.from_residual-in_err-report.ensures.1 in
+      left_lacking (known_of c.args.medium.now) _ before _ _ _ _ c.from_residual-in_err-report.result p.0 p.1
+      (c.in_ok-read_sectors.ensures.told.stands _ _ t tell (stands_start (known_of c.args.medium.now) _ before _ _ c.args.prepared _ (sized_by c.args.medium.now.extent _) refl refl ready));
+  stays = λ y t guards. (c.in_ok-read_sectors.ensures.told.stays y t guards).file_is;
+}
 
 pub returns-clause-told : goal.returns-clause-told
-returns-clause-told g c = λ before t tell ready.
-    read_whole (known_of c.args.medium.now) _ before _ _ _ c.read_sectors.new.reading c.args.prepared _ _ _ (sized_by c.args.medium.now.extent _)
-    (c.in_ok-read_sectors.ensures.told _ _ t tell (stands_start (known_of c.args.medium.now) _ before _ _ c.args.prepared _ (sized_by c.args.medium.now.extent _) refl refl ready))
-    (c.in_ok-report.ensures ∙ ap (λ xs. report_of xs c.asked_since-asked.result c.saturating_sub-surplus.result) c.deref.ensures.value)
-    (c.asked_since-asked.ensures ∙ ap (λ n. min (c.read_sectors.new.rack.asks - n) (2 ^ 64 - 1)) c.asks-asks.ensures) ready.size_is (c.saturating_sub-surplus.ensures ∙ ap (λ n. c.args.prepared.size - n) c.image_len.ensures.value)
+returns-clause-told g c = record {
+  reads = λ before t tell ready.
+      read_whole (known_of c.args.medium.now) _ before _ _ _ c.read_sectors.new.reading c.args.prepared _ _ _ (sized_by c.args.medium.now.extent _)
+      (c.in_ok-read_sectors.ensures.told.stands _ _ t tell (stands_start (known_of c.args.medium.now) _ before _ _ c.args.prepared _ (sized_by c.args.medium.now.extent _) refl refl ready))
+      (c.in_ok-report.ensures ∙ ap (λ xs. report_of xs c.asked_since-asked.result c.saturating_sub-surplus.result) c.deref.ensures.value)
+      (c.asked_since-asked.ensures ∙ ap (λ n. min (c.read_sectors.new.rack.asks - n) (2 ^ 64 - 1)) c.asks-asks.ensures) ready.size_is (c.saturating_sub-surplus.ensures ∙ ap (λ n. c.args.prepared.size - n) c.image_len.ensures.value);
+  stays = λ y t guards. (c.in_ok-read_sectors.ensures.told.stays y t guards).file_is;
+}
 
 pub returns-clause-unreadable : goal.returns-clause-unreadable
 returns-clause-unreadable g c =

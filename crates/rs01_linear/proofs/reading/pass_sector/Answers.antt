@@ -4,55 +4,80 @@ use Rattle.rs01_linear.specs.Medium.{known_of}
 use Rattle.rs01_linear.specs.declared.asking.Asked.TheVariants as asked
 use Rattle.rs01_linear.proofs.MarkLemmas.{sized_by}
 use Rattle.rs01_linear.proofs.RoseLemmas.{keeps_asked, keeps_same}
+use Rattle.rs01_linear.proofs.SpareLemmas.{guards_asked, guards_failed, guards_written}
 use Rattle.rs01_linear.proofs.StandLemmas.{comes_with, halts_read, stands_kept, stands_left, stands_read, stands_vain}
 use Rattle.rs01_linear.proofs.reading.pass_sector.Goals as goal
 
 pub returns-then-not-is_left_out-clause-told : goal.returns-then-not-is_left_out-clause-told
-returns-then-not-is_left_out-clause-told g c = λ y views t tell st.
-    stands_kept (known_of c.args.medium.now) _ y views c.args.sector _ _ _ c.index.result.now (sized_by c.args.medium.now.extent _) c.requires.sector c.index.ensures
-    (sym c.is_left_out.ensures ∙ c.if-not-is_left_out.true) st
+returns-then-not-is_left_out-clause-told g c = record {
+  stands = λ y views t tell st.
+      stands_kept (known_of c.args.medium.now) _ y views c.args.sector _ _ _ c.index.result.now (sized_by c.args.medium.now.extent _) c.requires.sector c.index.ensures
+      (sym c.is_left_out.ensures ∙ c.if-not-is_left_out.true) st;
+  stays = λ y t guards. guards;
+}
 
 pub returns-then-sector-reading-clause-told : goal.returns-then-sector-reading-clause-told
-returns-then-sector-reading-clause-told g c = λ y views t tell st.
-    stands_left (known_of c.args.medium.now) _ y views c.args.sector _ _ _ c.index.result.now (sized_by c.args.medium.now.extent _) c.requires.sector c.index.ensures
-    (sym c.is_left_out.ensures ∙ c.if-not-is_left_out.false) (omega (arith, c.if-sector-reading.true)) st
+returns-then-sector-reading-clause-told g c = record {
+  stands = λ y views t tell st.
+      stands_left (known_of c.args.medium.now) _ y views c.args.sector _ _ _ c.index.result.now (sized_by c.args.medium.now.extent _) c.requires.sector c.index.ensures
+      (sym c.is_left_out.ensures ∙ c.if-not-is_left_out.false) (omega (arith, c.if-sector-reading.true)) st;
+  stays = λ y t guards. guards;
+}
 
 pub returns-in-Unreadable-clause-told : goal.returns-in-Unreadable-clause-told
-returns-in-Unreadable-clause-told g c = λ y views t tell st.
-    let comes = comes_with c.args.medium.now.extent _ _ c.args.sector c.args.tries _ c.ask_sector-asked.new.into c.ask_sector-asked.result _ c.sums.ensures.sums (c.ask_sector-asked.ensures.asked.told tell) in
-    let late : c.args.reading.now.next ≤ c.args.sector = omega (arith, c.if-sector-reading.false) in
-    stands_vain (known_of c.args.medium.now) _ y views c.args.sector _ _ _ _ _ c.index.result.now c.ask_sector-asked.result c.ask_sector-asked.new.into
-    (sized_by c.args.medium.now.extent _) c.requires.sector c.index.ensures (sym c.is_left_out.ensures ∙ c.if-not-is_left_out.false) late comes
-    (λ e. let f : asked.Unreadable ≡ asked.Read = sym c.in-Unreadable.is ∙ e in cc)
-    (ap (set c.args.reading.now.fates.items c.args.sector) c.fate_of.ensures) refl st
+returns-in-Unreadable-clause-told g c = record {
+  stands = λ y views t tell st.
+      let comes = comes_with c.args.medium.now.extent _ _ c.args.sector c.args.tries _ c.ask_sector-asked.new.into c.ask_sector-asked.result _ c.sums.ensures.sums (c.ask_sector-asked.ensures.asked.told tell) in
+      let late : c.args.reading.now.next ≤ c.args.sector = omega (arith, c.if-sector-reading.false) in
+      stands_vain (known_of c.args.medium.now) _ y views c.args.sector _ _ _ _ _ c.index.result.now c.ask_sector-asked.result c.ask_sector-asked.new.into
+      (sized_by c.args.medium.now.extent _) c.requires.sector c.index.ensures (sym c.is_left_out.ensures ∙ c.if-not-is_left_out.false) late comes
+      (λ e. let f : asked.Unreadable ≡ asked.Read = sym c.in-Unreadable.is ∙ e in cc)
+      (ap (set c.args.reading.now.fates.items c.args.sector) c.fate_of.ensures) refl st;
+  stays = λ y t guards. guards_asked (known_of c.args.medium.now) y _ _ _ c.args.sector c.ask_sector-asked.result (ap (set c.args.reading.now.fates.items c.args.sector) c.fate_of.ensures) guards;
+}
 
 pub returns-in-Altered-clause-told : goal.returns-in-Altered-clause-told
-returns-in-Altered-clause-told g c = λ y views t tell st.
-    let comes = comes_with c.args.medium.now.extent _ _ c.args.sector c.args.tries _ c.ask_sector-asked.new.into c.ask_sector-asked.result _ c.sums.ensures.sums (c.ask_sector-asked.ensures.asked.told tell) in
-    let late : c.args.reading.now.next ≤ c.args.sector = omega (arith, c.if-sector-reading.false) in
-    stands_vain (known_of c.args.medium.now) _ y views c.args.sector _ _ _ _ _ c.index.result.now c.ask_sector-asked.result c.ask_sector-asked.new.into
-    (sized_by c.args.medium.now.extent _) c.requires.sector c.index.ensures (sym c.is_left_out.ensures ∙ c.if-not-is_left_out.false) late comes
-    (λ e. let f : asked.Altered ≡ asked.Read = sym c.in-Altered.is ∙ e in cc)
-    (ap (set c.args.reading.now.fates.items c.args.sector) c.fate_of.ensures) refl st
+returns-in-Altered-clause-told g c = record {
+  stands = λ y views t tell st.
+      let comes = comes_with c.args.medium.now.extent _ _ c.args.sector c.args.tries _ c.ask_sector-asked.new.into c.ask_sector-asked.result _ c.sums.ensures.sums (c.ask_sector-asked.ensures.asked.told tell) in
+      let late : c.args.reading.now.next ≤ c.args.sector = omega (arith, c.if-sector-reading.false) in
+      stands_vain (known_of c.args.medium.now) _ y views c.args.sector _ _ _ _ _ c.index.result.now c.ask_sector-asked.result c.ask_sector-asked.new.into
+      (sized_by c.args.medium.now.extent _) c.requires.sector c.index.ensures (sym c.is_left_out.ensures ∙ c.if-not-is_left_out.false) late comes
+      (λ e. let f : asked.Altered ≡ asked.Read = sym c.in-Altered.is ∙ e in cc)
+      (ap (set c.args.reading.now.fates.items c.args.sector) c.fate_of.ensures) refl st;
+  stays = λ y t guards. guards_asked (known_of c.args.medium.now) y _ _ _ c.args.sector c.ask_sector-asked.result (ap (set c.args.reading.now.fates.items c.args.sector) c.fate_of.ensures) guards;
+}
 
 pub returns-in-Ok-clause-told : goal.returns-in-Ok-clause-told
-returns-in-Ok-clause-told g c = λ y views t tell st.
-    let comes = comes_with c.args.medium.now.extent _ _ c.args.sector c.args.tries _ c.ask_sector-asked.new.into c.ask_sector-asked.result _ c.sums.ensures.sums (c.ask_sector-asked.ensures.asked.told tell) in
-    let late : c.args.reading.now.next ≤ c.args.sector = omega (arith, c.if-sector-reading.false) in
-    stands_read (known_of c.args.medium.now) _ y views c.args.sector _ _ _ _ _ _ c.args.name.now c.index.result.now c.ask_sector-asked.result c.ask_sector-asked.new.into _ _
-    (sized_by c.args.medium.now.extent _) c.requires.sector c.index.ensures (sym c.is_left_out.ensures ∙ c.if-not-is_left_out.false) late comes
-    c.in-Read.is c.ask_sector-asked.array_long
-    (ap (set c.args.reading.now.fates.items c.args.sector) c.fate_of.ensures) refl
-    (ap (λ n. 2048 * n) c.from.ensures) (ap (λ n. take n c.ask_sector-asked.new.into) c.length.ensures.value) (c.in-Ok.ensures.written t) st
+returns-in-Ok-clause-told g c = record {
+  stands = λ y views t tell st.
+      let comes = comes_with c.args.medium.now.extent _ _ c.args.sector c.args.tries _ c.ask_sector-asked.new.into c.ask_sector-asked.result _ c.sums.ensures.sums (c.ask_sector-asked.ensures.asked.told tell) in
+      let late : c.args.reading.now.next ≤ c.args.sector = omega (arith, c.if-sector-reading.false) in
+      stands_read (known_of c.args.medium.now) _ y views c.args.sector _ _ _ _ _ _ c.args.name.now c.index.result.now c.ask_sector-asked.result c.ask_sector-asked.new.into _ _
+      (sized_by c.args.medium.now.extent _) c.requires.sector c.index.ensures (sym c.is_left_out.ensures ∙ c.if-not-is_left_out.false) late comes
+      c.in-Read.is c.ask_sector-asked.array_long
+      (ap (set c.args.reading.now.fates.items c.args.sector) c.fate_of.ensures) refl
+      (ap (λ n. 2048 * n) c.from.ensures) (ap (λ n. take n c.ask_sector-asked.new.into) c.length.ensures.value) (c.in-Ok.ensures.written t) st;
+  stays = λ y t guards.
+      guards_written (known_of c.args.medium.now) y _ _ _ _ c.args.name.now _ c.ask_sector-asked.new.into c.args.sector _ c.index.result.now c.ask_sector-asked.result
+      (sized_by c.args.medium.now.extent _) c.requires.sector c.requires.all c.index.ensures (sym c.is_left_out.ensures ∙ c.if-not-is_left_out.false) (ap (set c.args.reading.now.fates.items c.args.sector) c.fate_of.ensures)
+      (ap (λ n. 2048 * n) c.from.ensures) (ap (λ n. take n c.ask_sector-asked.new.into) c.length.ensures.value) (c.in-Ok.ensures.written t) guards;
+}
 
 pub returns-in-Err-clause-told : goal.returns-in-Err-clause-told
-returns-in-Err-clause-told g c = λ y views t tell st.
-    let comes = comes_with c.args.medium.now.extent _ _ c.args.sector c.args.tries _ c.ask_sector-asked.new.into c.ask_sector-asked.result _ c.sums.ensures.sums (c.ask_sector-asked.ensures.asked.told tell) in
-    let late : c.args.reading.now.next ≤ c.args.sector = omega (arith, c.if-sector-reading.false) in
-    halts_read (known_of c.args.medium.now) _ y views c.args.sector _ _ _ _ _ c.args.name.now c.index.result.now c.ask_sector-asked.result c.ask_sector-asked.new.into _ _ c.in-Err.field-0
-    (sized_by c.args.medium.now.extent _) c.requires.sector c.index.ensures (sym c.is_left_out.ensures ∙ c.if-not-is_left_out.false) late comes
-    c.in-Read.is c.ask_sector-asked.array_long
-    (ap (λ n. 2048 * n) c.from.ensures) (ap (λ n. take n c.ask_sector-asked.new.into) c.length.ensures.value) (c.in-Err.ensures.written t) st
+returns-in-Err-clause-told g c = record {
+  stands = λ y views t tell st.
+      let comes = comes_with c.args.medium.now.extent _ _ c.args.sector c.args.tries _ c.ask_sector-asked.new.into c.ask_sector-asked.result _ c.sums.ensures.sums (c.ask_sector-asked.ensures.asked.told tell) in
+      let late : c.args.reading.now.next ≤ c.args.sector = omega (arith, c.if-sector-reading.false) in
+      halts_read (known_of c.args.medium.now) _ y views c.args.sector _ _ _ _ _ c.args.name.now c.index.result.now c.ask_sector-asked.result c.ask_sector-asked.new.into _ _ c.in-Err.field-0
+      (sized_by c.args.medium.now.extent _) c.requires.sector c.index.ensures (sym c.is_left_out.ensures ∙ c.if-not-is_left_out.false) late comes
+      c.in-Read.is c.ask_sector-asked.array_long
+      (ap (λ n. 2048 * n) c.from.ensures) (ap (λ n. take n c.ask_sector-asked.new.into) c.length.ensures.value) (c.in-Err.ensures.written t) st;
+  stays = λ y t guards.
+      guards_failed (known_of c.args.medium.now) y _ _ _ _ c.args.name.now _ c.ask_sector-asked.new.into c.args.sector _ c.index.result.now c.ask_sector-asked.result c.in-Err.field-0
+      (sized_by c.args.medium.now.extent _) c.requires.sector c.requires.all c.index.ensures (sym c.is_left_out.ensures ∙ c.if-not-is_left_out.false) (ap (set c.args.reading.now.fates.items c.args.sector) c.fate_of.ensures)
+      (ap (λ n. 2048 * n) c.from.ensures) (ap (λ n. take n c.ask_sector-asked.new.into) c.length.ensures.value) (c.in-Err.ensures.written t) guards;
+}
 
 pub returns-in-Unreadable-clause-kept : goal.returns-in-Unreadable-clause-kept
 returns-in-Unreadable-clause-kept g c =

@@ -1,0 +1,37 @@
+-- What stays of an image file y, whatever the drives give.
+use Rattle.std.specs.Prelude.{ℕ, ◌≡◌, ◌<◌, ◌≤◌, ◌⊎◌, ◌/◌, IsSomeAnd, IsTrue, IsOkAnd, List, Option, false, true, get_or, length}
+use Rattle.std.specs.Borrow.{Bor}
+use Rattle.rs01_outside.specs.DeskState.{DeskState}
+use Rattle.rs01_outside.specs.Files.{bytes_of}
+use Rattle.rs01_rack.specs.Rack.{AllTell, RackState, views_of}
+use Rattle.rs01_ecchead.specs.Erased.{Known, image_len, is_erased}
+use Rattle.rs01_linear.specs.Marking.{is_left_out}
+use Rattle.rs01_linear.specs.Medium.{IsKnownBy, file_given, found}
+use Rattle.rs01_linear.specs.declared.fate.Fate.{Fate}
+use Rattle.rs01_linear.specs.declared.fate.Fate.TheVariants.{Kept}
+
+-- byte k is to stay: it stands past the image, or in a sector that is good
+abbrev pub IsToStay : Known → List ℕ → ℕ → Type 0
+IsToStay known y k = (image_len known ≤ k) ⊎ (is_erased known y (k / 2048) ≡ false)
+
+-- a later file isn't shorter, and has the bytes that are to stay
+pub record Spares (known : Known) (y later : List ℕ) : Type 0 where
+  pub longer : length y ≤ length later
+  pub same : (k : ℕ) → k < length y → IsToStay known y k → get_or later k 0 ≡ get_or y k 0
+
+-- while sectors are passed: the file has these bytes, and only sectors that weren't good may be asked for
+pub record Guards (known : Known) (y : List ℕ) (fates : List Fate) (file : Option (List ℕ)) : Type 0 where
+  pub file_is : IsSomeAnd file (Spares known y)
+  pub erased : (s : ℕ) → s < known.sectors → is_left_out (get_or fates s Kept) ≡ true → is_erased known y s ≡ true
+
+-- by what is known of the medium, which is what is found where the drives tell
+pub record IsSpared (given : Option (Option (List ℕ))) (y : List ℕ) (file : Option (List ℕ)) (old new : RackState) : Type 0 where
+  pub known : Known
+  pub known_is : IsKnownBy given known
+  pub told : AllTell new → IsOkAnd (found given (views_of old)) (λ f. f.known ≡ known)
+  pub spares : IsSomeAnd file (Spares known y)
+
+-- where the desk tells: the image file is as it was, or what is good in it stays
+abbrev pub StaysGood : (desk desk' : DeskState) → Option (Bor (List ℕ)) → List ℕ → (old new : RackState) → Type 0
+StaysGood desk desk' ecc name old new =
+    IsTrue desk.tells → (desk'.files name ≡ desk.files name) ⊎ IsSpared (file_given desk ecc) (bytes_of desk.files name) (desk'.files name) old new
