@@ -17,6 +17,9 @@ pub record Manner : Type 0 where
   pub jump : ℕ
   pub tries : ℕ
 
+abbrev pub manner_of : ℕ → ℕ → Manner
+manner_of jump tries = record { jump = jump; tries = tries }
+
 -- the manners that there are
 pub record IsManner (jump tries : ℕ) : Type 0 where
   pub some_jump : 1 ≤ jump

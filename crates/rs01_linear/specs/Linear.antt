@@ -7,9 +7,11 @@ use Rattle.rs01_ecchead.specs.Erased.{Known}
 use Rattle.rs01_outside.specs.DeskState.{DeskState}
 use Rattle.rs01_rack.specs.Rack.{AllTell, RackState}
 use Rattle.rs01_report.specs.declared.reports.ReadReport.{ReadReport}
-use Rattle.rs01_linear.specs.Course.{Manner}
+use Rattle.rs01_linear.specs.Course.{Manner, manner_of}
+use Rattle.rs01_linear.specs.Medium.{known_of}
 use Rattle.rs01_linear.specs.Outcome.{IsLeftAt, IsReadInto}
 use Rattle.rs01_linear.specs.Spared.{Guards, Spares}
+use Rattle.rs01_linear.specs.declared.medium.Medium.{Medium}
 use Rattle.rs01_linear.specs.declared.prepared.Prepared.{Prepared}
 use Rattle.rs01_linear.specs.declared.refusal.ReadRefusal.{ReadRefusal}
 
@@ -35,8 +37,8 @@ ReadsPrepared known manner before old new file (Err why) = IsLeftAt known manner
 
 -- the same where the desk and the drives tell, from whatever image file was got ready, and where the desk alone tells, what
 -- is good in the file stays
-pub record TellsPrepared (known : Known) (manner : Manner) (name : List ℕ) (prepared : Prepared) (desk desk' : DeskState) (result : Result ReadReport ReadRefusal) (old new : RackState) : Type 0 where
+pub record TellsPrepared (medium : Medium) (jump tries : ℕ) (name : List ℕ) (prepared : Prepared) (desk desk' : DeskState) (result : Result ReadReport ReadRefusal) (old new : RackState) : Type 0 where
   pub reads :
-      (before : Option (List ℕ)) → IsTrue desk.tells → AllTell new → IsPrepared known before (desk.files name) prepared
-      → ReadsPrepared known manner before old new (desk'.files name) result
-  pub stays : (y : List ℕ) → IsTrue desk.tells → Guards known y prepared.fates.items (desk.files name) → IsSomeAnd (desk'.files name) (Spares known y)
+      (before : Option (List ℕ)) → IsTrue desk.tells → AllTell new → IsPrepared (known_of medium) before (desk.files name) prepared
+      → ReadsPrepared (known_of medium) (manner_of jump tries) before old new (desk'.files name) result
+  pub stays : (y : List ℕ) → IsTrue desk.tells → Guards (known_of medium) y prepared.fates.items (desk.files name) → IsSomeAnd (desk'.files name) (Spares (known_of medium) y)

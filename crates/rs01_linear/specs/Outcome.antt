@@ -7,7 +7,7 @@ use Rattle.rs01_rack.specs.Counting.{GivesNumber, HasCause}
 use Rattle.rs01_rack.specs.Rack.{AllTell, RackState, views_of}
 use Rattle.rs01_ecchead.specs.Erased.{Known, image_len}
 use Rattle.rs01_report.specs.declared.reports.ReadReport.{ReadReport}
-use Rattle.rs01_linear.specs.Course.{Manner, read_to, whole_reading}
+use Rattle.rs01_linear.specs.Course.{Manner, manner_of, read_to, whole_reading}
 use Rattle.rs01_linear.specs.Lasting.{AllRoseBy}
 use Rattle.rs01_linear.specs.Left.{IsOnTheWay, image_left, marked}
 use Rattle.rs01_linear.specs.Medium.{IsUnfit, file_given, found}
@@ -52,9 +52,9 @@ Reads given manner old new before file (Ok told) = IsOkAnd (found given (views_o
 Reads given manner old new before file (Err why) = IsUnread given manner old new before file why
 
 -- the same of a reading into the named image, and only there where both tell
-abbrev pub TellsReading : (desk desk' : DeskState) → Option (Bor (List ℕ)) → Manner → List ℕ → Result ReadReport ReadRefusal → (old new : RackState) → Type 0
-TellsReading desk desk' ecc manner name result old new =
-    IsTrue desk.tells → AllTell new → Reads (file_given desk ecc) manner old new (desk.files name) (desk'.files name) result
+abbrev pub TellsReading : (desk desk' : DeskState) → Option (Bor (List ℕ)) → (jump tries : ℕ) → List ℕ → Result ReadReport ReadRefusal → (old new : RackState) → Type 0
+TellsReading desk desk' ecc jump tries name result old new =
+    IsTrue desk.tells → AllTell new → Reads (file_given desk ecc) (manner_of jump tries) old new (desk.files name) (desk'.files name) result
 
 -- a refusal of the drives, whether they tell or not: what they gave, and with which cause
 abbrev pub RefusesBy : {T : Type 0} → Result T ReadRefusal → RackState → RackState → Type 0

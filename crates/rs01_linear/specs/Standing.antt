@@ -4,12 +4,14 @@ use Rattle.rs01_outside.specs.DeskState.{DeskState}
 use Rattle.rs01_outside.specs.DriveView.{DriveView}
 use Rattle.rs01_rack.specs.Rack.{AllTell, RackState, views_of}
 use Rattle.rs01_ecchead.specs.Erased.{Known}
-use Rattle.rs01_linear.specs.Course.{Manner, read_to}
+use Rattle.rs01_linear.specs.Course.{Manner, manner_of, read_to}
 use Rattle.rs01_linear.specs.Lasting.{AllRoseBy, RackLasts}
 use Rattle.rs01_linear.specs.Left.{first_fates, image_left, marked, mixed}
 use Rattle.rs01_linear.specs.Marking.{IsMixed, place}
+use Rattle.rs01_linear.specs.Medium.{known_of}
 use Rattle.rs01_linear.specs.Report.{unread}
 use Rattle.rs01_linear.specs.Spared.{Guards}
+use Rattle.rs01_linear.specs.declared.medium.Medium.{Medium}
 use Rattle.rs01_linear.specs.declared.reading.Reading.{Reading}
 
 -- drives, what is kept and the image file, once the sectors below s were passed
@@ -43,18 +45,18 @@ PassesAll known manner y views rack reading file (Err why) = Halted known manner
 
 -- how passing sector s ends, where the desk tells: as it should where the drives tell too, from wherever the reading
 -- stood, and in any case what is good in the file stays
-pub record TellsPass {T E : Type 0} (known : Known) (s : ℕ) (manner : Manner) (name : List ℕ) (desk desk' : DeskState) (was is : Reading) (result : Result T E) (old new : RackState) : Type 0 where
+pub record TellsPass {T E : Type 0} (medium : Medium) (s jump tries : ℕ) (name : List ℕ) (desk desk' : DeskState) (was is : Reading) (result : Result T E) (old new : RackState) : Type 0 where
   pub stands :
-      (y : List ℕ) (views : List DriveView) → IsTrue desk.tells → AllTell new → Stands known manner y views s old was (desk.files name)
-      → Passes known manner y views s new is (desk'.files name) result
-  pub stays : (y : List ℕ) → IsTrue desk.tells → Guards known y was.fates.items (desk.files name) → Guards known y is.fates.items (desk'.files name)
+      (y : List ℕ) (views : List DriveView) → IsTrue desk.tells → AllTell new → Stands (known_of medium) (manner_of jump tries) y views s old was (desk.files name)
+      → Passes (known_of medium) (manner_of jump tries) y views s new is (desk'.files name) result
+  pub stays : (y : List ℕ) → IsTrue desk.tells → Guards (known_of medium) y was.fates.items (desk.files name) → Guards (known_of medium) y is.fates.items (desk'.files name)
 
 -- the same of passing all sectors, from the first one on
-pub record TellsPasses {T E : Type 0} (known : Known) (manner : Manner) (name : List ℕ) (desk desk' : DeskState) (was is : Reading) (result : Result T E) (old new : RackState) : Type 0 where
+pub record TellsPasses {T E : Type 0} (medium : Medium) (jump tries : ℕ) (name : List ℕ) (desk desk' : DeskState) (was is : Reading) (result : Result T E) (old new : RackState) : Type 0 where
   pub stands :
-      (y : List ℕ) (views : List DriveView) → IsTrue desk.tells → AllTell new → Stands known manner y views 0 old was (desk.files name)
-      → PassesAll known manner y views new is (desk'.files name) result
-  pub stays : (y : List ℕ) → IsTrue desk.tells → Guards known y was.fates.items (desk.files name) → Guards known y is.fates.items (desk'.files name)
+      (y : List ℕ) (views : List DriveView) → IsTrue desk.tells → AllTell new → Stands (known_of medium) (manner_of jump tries) y views 0 old was (desk.files name)
+      → PassesAll (known_of medium) (manner_of jump tries) y views new is (desk'.files name) result
+  pub stays : (y : List ℕ) → IsTrue desk.tells → Guards (known_of medium) y was.fates.items (desk.files name) → Guards (known_of medium) y is.fates.items (desk'.files name)
 
 -- what passing sectors keeps, whatever is told: the drives, how many sectors there are, and that each one that no drive
 -- answered for raised each drive's count

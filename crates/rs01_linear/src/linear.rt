@@ -4,7 +4,6 @@ ghost use Rattle.std.specs.Option.{ForSome};
 ghost use Rattle.rs01_linear.specs.Course.{IsManner};
 ghost use Rattle.rs01_linear.specs.Lasting.{RackLasts};
 ghost use Rattle.rs01_linear.specs.Linear.{TellsPrepared};
-ghost use Rattle.rs01_linear.specs.Medium.{known_of};
 ghost use Rattle.rs01_linear.specs.Outcome.{RefusesBy, TellsReading, UnreadableRose};
 ghost use Rattle.rs01_linear.specs.Racks.{OnRack, seen_by};
 ghost use Rattle.rs01_linear.specs.Report.{IsFresh};
@@ -48,9 +47,8 @@ fn read_prepared<D: Desk>(
     ensures causes { IfErr result IsOfWork }
     ensures lasts { OnRack ⟦<dyn Drive as Drive>⟧ RackLasts rack.old rack.new }
     ensures unreadable { OnRack ⟦<dyn Drive as Drive>⟧ (UnreadableRose result) rack.old rack.new }
-    ensures told { OnRack ⟦<dyn Drive as Drive>⟧ (TellsPrepared (known_of medium.now)
-        (record { jump = jump; tries = tries }) name.now prepared (D.state desk.old)
-        (D.state desk.new) result) rack.old rack.new }
+    ensures told { OnRack ⟦<dyn Drive as Drive>⟧ (TellsPrepared medium.now jump tries name.now
+        prepared (D.state desk.old) (D.state desk.new) result) rack.old rack.new }
 {
     let asks = rack.asks();
     let mut reading = Reading {
@@ -94,7 +92,7 @@ pub fn read_linear<D: Desk>(
     ensures unreadable { OnRack ⟦<dyn Drive as Drive>⟧ (UnreadableRose result) rack.old rack.new }
     ensures refused { OnRack ⟦<dyn Drive as Drive>⟧ (RefusesBy result) rack.old rack.new }
     ensures told { OnRack ⟦<dyn Drive as Drive>⟧ (TellsReading (D.state desk.old) (D.state desk.new)
-        ecc.entry (record { jump = jump; tries = tries }) image.now result) rack.old rack.new }
+        ecc.entry jump tries image.now result) rack.old rack.new }
     ensures stays { OnRack ⟦<dyn Drive as Drive>⟧ (StaysGood (D.state desk.old) (D.state desk.new)
         ecc.entry image.now) rack.old rack.new }
 {

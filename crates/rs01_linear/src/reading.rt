@@ -3,7 +3,6 @@ ghost use Rattle.std.specs.Prelude.{◌≡◌, ◌<◌, length};
 ghost use Rattle.rs01_linear.specs.Racks.{OnRack};
 ghost use Rattle.rs01_linear.specs.Refusal.{Writes};
 ghost use Rattle.rs01_linear.specs.Course.{IsManner, fate_of};
-ghost use Rattle.rs01_linear.specs.Medium.{known_of};
 
 use crate::asking::{Asked, ask_sector};
 use crate::fate::Fate;
@@ -50,9 +49,8 @@ fn pass_sector<D: Desk>(
     requires manner { IsManner jump tries }
     ensures writes { Writes name.now (D.state desk.old) (D.state desk.new) result }
     ensures kept { OnRack ⟦<dyn Drive as Drive>⟧ (Keeps reading.old reading.new) rack.old rack.new }
-    ensures told { OnRack ⟦<dyn Drive as Drive>⟧ (TellsPass (known_of medium.now) sector
-        (record { jump = jump; tries = tries }) name.now (D.state desk.old) (D.state desk.new)
-        reading.old reading.new result) rack.old rack.new }
+    ensures told { OnRack ⟦<dyn Drive as Drive>⟧ (TellsPass medium.now sector jump tries name.now
+        (D.state desk.old) (D.state desk.new) reading.old reading.new result) rack.old rack.new }
 {
     if !is_left_out(reading.fates[sector as usize]) {
         return Ok(());
@@ -103,9 +101,8 @@ pub fn read_sectors<D: Desk>(
     requires manner { IsManner jump tries }
     ensures writes { Writes name.now (D.state desk.old) (D.state desk.new) result }
     ensures kept { OnRack ⟦<dyn Drive as Drive>⟧ (Keeps reading.old reading.new) rack.old rack.new }
-    ensures told { OnRack ⟦<dyn Drive as Drive>⟧ (TellsPasses (known_of medium.now)
-        (record { jump = jump; tries = tries }) name.now (D.state desk.old) (D.state desk.new)
-        reading.old reading.new result) rack.old rack.new }
+    ensures told { OnRack ⟦<dyn Drive as Drive>⟧ (TellsPasses medium.now jump tries name.now
+        (D.state desk.old) (D.state desk.new) reading.old reading.new result) rack.old rack.new }
 {
     for sector in 0..medium.extent.sectors {
         pass_sector(rack, desk, name, medium, jump, tries, sector, reading)?;
