@@ -35,8 +35,8 @@ abbrev pub ReadsPrepared : Known → Manner → Option (List ℕ) → (old new :
 ReadsPrepared known manner before old new file (Ok told) = IsReadInto known manner (unwrap_or before []) old new file told
 ReadsPrepared known manner before old new file (Err why) = IsLeftAt known manner (unwrap_or before []) old new before file
 
--- the same where the desk and the drives tell, from whatever image file was got ready, and where the desk alone tells, what
--- is good in the file stays
+-- the same where the desk and the drives tell, from whatever image file was got ready; and where the desk tells, whatever
+-- the drives do, what is good in the file stays
 pub record TellsPrepared (medium : Medium) (jump tries : ℕ) (name : List ℕ) (prepared : Prepared) (desk desk' : DeskState) (result : Result ReadReport ReadRefusal) (old new : RackState) : Type 0 where
   pub reads :
       (before : Option (List ℕ)) → IsTrue desk.tells → AllTell new → IsPrepared (known_of medium) before (desk.files name) prepared
