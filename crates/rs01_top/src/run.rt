@@ -18,7 +18,7 @@ use crate::faults::word_fault;
 use rs01_outside::{Desk, Drive, Sink};
 use rs01_rack::Rack;
 use rs01_report::{Fault, Status};
-use rs01_words::{Command, read_words, word_at};
+use rs01_words::{Command, read_words, word_at as at};
 use std::alloc::Global;
 
 // The word at a place, where there is one.
@@ -27,7 +27,7 @@ fn word_if(words: &[String], place: Option<usize>) -> Option<&str>
     ensures { option_map (λ word. word.now) result ≡ option_map (word_at (texts words.now)) place }
 {
     match place {
-        Some(place) => Some(word_at(words, place)),
+        Some(place) => Some(at(words, place)),
         None => None,
     }
 }
@@ -55,32 +55,18 @@ fn answer<D: Desk, S: Sink>(
             ecc,
             parity,
             ..
-        } => run_create(
-            alloc,
-            desk,
-            word_at(words, image),
-            word_at(words, ecc),
-            parity,
-            out,
-        ),
+        } => run_create(alloc, desk, at(words, image), at(words, ecc), parity, out),
         Command::Fix {
             image,
             ecc,
             cut,
             ..
-        } => run_fix(
-            alloc,
-            desk,
-            word_at(words, image),
-            word_at(words, ecc),
-            cut,
-            out,
-        ),
+        } => run_fix(alloc, desk, at(words, image), at(words, ecc), cut, out),
         Command::Verify { image, ecc } => run_verify(
             alloc,
             desk,
-            word_at(words, image),
-            word_at(words, ecc),
+            at(words, image),
+            at(words, ecc),
             out,
         ),
         Command::Scan { ecc, .. } => run_scan(alloc, desk, word_if(words, ecc), rack, out),
@@ -96,16 +82,7 @@ fn answer<D: Desk, S: Sink>(
                 return fail(alloc, &Fault::NotBuilt, out);
             }
             let ecc = word_if(words, ecc);
-            run_read(
-                alloc,
-                desk,
-                word_at(words, image),
-                ecc,
-                jump,
-                tries,
-                rack,
-                out,
-            )
+            run_read(alloc, desk, at(words, image), ecc, jump, tries, rack, out)
         }
         Command::Demo { .. } => fail(alloc, &Fault::NotBuilt, out),
     }

@@ -7,7 +7,6 @@ use Rattle.rs01_layers.specs.Layout.{IsShape, layer_of, layers_of}
 use Rattle.rs01_layers.proofs.PlaceLemmas.{some_layer}
 use Rattle.rs01_ecchead.specs.declared.head.Head.{Head}
 use Rattle.std.proofs.lemmas.Nat.{div_below, mul-le}
-use Rattle.rs01_outside.specs.DriveState.{DriveState}
 use Rattle.rs01_outside.specs.DriveView.{DriveView}
 use Rattle.rs01_rack.specs.Rack.{AllRose, RackState, views_of}
 use Rattle.rs01_ecchead.specs.Erased.{Known}

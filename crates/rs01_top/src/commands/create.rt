@@ -23,7 +23,8 @@ pub fn run_create<D: Desk, S: Sink>(
     requires differ { image.now ≢ ecc.now }
     requires least { 8 ≤ parity }
     requires most { parity ≤ 100 }
-    ensures run { RunsAlone (create_work image.now ecc.now parity) (D.state desk.old) (D.state desk.new)
+    ensures run { RunsAlone (create_work image.now ecc.now parity)
+        (D.state desk.old) (D.state desk.new)
         (S.state out.old) (S.state out.new) (number_of result) }
 {
     match create_one(alloc, desk, image, ecc, parity) {
