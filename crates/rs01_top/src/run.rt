@@ -62,13 +62,9 @@ fn answer<D: Desk, S: Sink>(
             cut,
             ..
         } => run_fix(alloc, desk, at(words, image), at(words, ecc), cut, out),
-        Command::Verify { image, ecc } => run_verify(
-            alloc,
-            desk,
-            at(words, image),
-            at(words, ecc),
-            out,
-        ),
+        Command::Verify { image, ecc } => {
+            run_verify(alloc, desk, at(words, image), at(words, ecc), out)
+        }
         Command::Scan { ecc, .. } => run_scan(alloc, desk, word_if(words, ecc), rack, out),
         Command::Read {
             image,
