@@ -15,3 +15,5 @@ pub use verifying::verify;
 
 #[cfg(test)]
 mod tests;
+#[cfg(test)]
+mod tests_of_scanning;

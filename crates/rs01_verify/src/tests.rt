@@ -40,7 +40,7 @@ fn ecc_bytes(alloc: Global) -> Result<Vec<u8>, AllocError> {
 }
 
 // A desk with that image and its error correction file.
-fn protected(alloc: Global) -> Result<MemoryDesk, AllocError> {
+pub fn protected(alloc: Global) -> Result<MemoryDesk, AllocError> {
     let mut desk = MemoryDesk::new(alloc);
     desk.put_file(alloc, "disc.iso", &[0u8; 20_480])?;
     desk.put_file(alloc, "disc.ecc", &ecc_bytes(alloc)?)?;
