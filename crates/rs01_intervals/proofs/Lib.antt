@@ -1,0 +1,4 @@
+pub mod Better
+pub mod Joining
+pub mod Covering
+pub mod Choosing

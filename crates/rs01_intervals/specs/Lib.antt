@@ -1,0 +1,4 @@
+pub mod Runs
+pub mod Summaries
+pub mod Tree
+pub mod Maximal
