@@ -40,7 +40,7 @@ run-is p q = cc
 pub behind-none : (run : ℕ × ℕ) → behind 0 run ≡ run
 behind-none run = run-is {len = run.1} (omega arith) refl
 
--- two runs that start at one place
+-- of two runs with the same start, the second has all flags of the first
 pub better-there : (start len more : ℕ) → len ≤ more → better (start, len) (start, more) ≡ (start, more)
 better-there start len more h =
     ⊎_elim
@@ -51,7 +51,7 @@ better-there start len more h =
 pub head-fits : (xs : List Bool) → head_len xs ≤ length xs
 head-fits xs = prefix_len-le-length (λ (flag : Bool). flag) xs
 
--- the longest run lies within the list
+-- the longest run doesn't reach past the list
 pub best-fits : (xs : List Bool) → (best_run xs).0 + (best_run xs).1 ≤ length xs
 unfolding best_run better
 best-fits [] = omega arith

@@ -1,4 +1,4 @@
--- The longest run among all runs.
+-- That no other run is better than the longest one.
 use Rattle.std.proofs.Common.{◌≡◌, ℕ, ◌+◌, ◌-◌, ◌<◌, ◌≤◌, ⊎_elim, zero, suc, List, [], ◌∷◌, length, refl, sym, ap, subst, ◌∙◌, arith}
 use Rattle.std.specs.Prelude.{Bool, true, false, ◌≢◌, IfSome, Some, None}
 use Rattle.std.proofs.lemmas.Bool.{cases_lt, cases_eq, false≢true}
@@ -8,8 +8,8 @@ use Rattle.rs01_intervals.specs.Runs.{head_len, better, best_run, behind, longes
 use Rattle.rs01_intervals.specs.Maximal.{flag_at, IsRun, IsMaximal}
 use Rattle.rs01_intervals.proofs.Better.{keeps-first, takes-second, bounds-none, bounds-some}
 
-nothing-below : (k : ℕ) → k < 0 → ⊥
-nothing-below k h = omega arith
+never-below : (k : ℕ) → k < 0 → ⊥
+never-below k h = omega arith
 
 -- a flag that is set lies within the list
 pub set-is-there : (xs : List Bool) (place : ℕ) → flag_at xs place ≡ true → place < length xs
@@ -42,7 +42,7 @@ run-before x xs start len run k below = at-place (x ∷ xs) {j = suc (start + k)
 
 best-is-run : (xs : List Bool) → IsRun xs (best_run xs).0 (best_run xs).1
 unfolding best_run
-best-is-run [] = λ k below. absurd (nothing-below k below)
+best-is-run [] = λ k below. absurd (never-below k below)
 best-is-run (x ∷ xs) =
     let head : ℕ × ℕ = (0, head_len (x ∷ xs)) in
     let later : ℕ × ℕ = behind 1 (best_run xs) in
@@ -127,6 +127,6 @@ pub none-means-clear : (xs : List Bool) → longest xs ≡ None → (place : ℕ
 unfolding longest
 none-means-clear xs none place =
     ⊎_elim
-    (λ empty. clear-or-set (flag_at xs place) (λ set. nothing-below 0 (omega (arith, empty, best-is-most xs place 1 (one-run xs place set)))))
+    (λ empty. clear-or-set (flag_at xs place) (λ set. never-below 0 (omega (arith, empty, best-is-most xs place 1 (one-run xs place set)))))
     (λ some. absurd (some-is-not-none _ (sym (bounds-some (best_run xs) some) ∙ none)))
     (cases_eq (best_run xs).1 0)

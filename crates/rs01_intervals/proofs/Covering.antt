@@ -8,11 +8,11 @@ use Rattle.std.specs.Int.{IsPowerOfTwo}
 use Rattle.std.proofs.lemmas.Nat.{pow_pos}
 use Rattle.std.proofs.Math.Nat.{mul-add, add-mul, pow-succ', mul_assoc}
 use Rattle.std.proofs.Math.Seq.{take-add}
-use Rattle.rs01_intervals.specs.Runs.{best_run}
+use Rattle.rs01_intervals.specs.Runs.{best_run, bounds, longest}
 use Rattle.rs01_intervals.specs.Summaries.{summary_of, joined}
 use Rattle.rs01_intervals.specs.Tree.{between, summary_between, chunk_from, summary_of_chunks, summary_of_chunk, node_at, AllJoinExcept, LeavesStay, IsTree}
 use Rattle.rs01_intervals.specs.declared.summary.Summary.{Summary}
-use Rattle.rs01_intervals.proofs.Better.{behind-none}
+use Rattle.rs01_intervals.proofs.Better.{behind-none, best-fits}
 use Rattle.rs01_intervals.proofs.Joining.{summary-append}
 
 -- parts of a list
@@ -140,6 +140,17 @@ root-is-best flags leaves nodes root tree read =
     let some : 1 ≤ leaves = omega (arith, tree.power.1, pow_pos tree.power.0) in
     let at = get_or_read nodes 1 root (omega (arith, tree.count)) read (summary_of 0 []) in
     ap (λ (s : Summary). s.best) (at ∙ root-covers flags leaves nodes tree) ∙ behind-none (best_run flags)
+
+-- where it ends, and what it is by start and end
+pub root-within : (flags : List Bool) (leaves : ℕ) (nodes : List Summary) (root : Summary) → IsTree flags leaves nodes → root ≡ get_or nodes 1 root → root.best.0 + root.best.1 ≤ length flags
+root-within flags leaves nodes root tree read =
+    let ends = ap (λ (run : ℕ × ℕ). run.0 + run.1) (root-is-best flags leaves nodes root tree read) in
+    omega (arith, ends, best-fits flags)
+
+pub root-bounds : (flags shown : List Bool) (leaves : ℕ) (nodes : List Summary) (root : Summary) → IsTree flags leaves nodes → root ≡ get_or nodes 1 root → flags ≡ shown → bounds root.best ≡ longest shown
+unfolding longest
+root-bounds flags shown leaves nodes root tree read same =
+    ap bounds (root-is-best flags leaves nodes root tree read) ∙ ap (λ (xs : List Bool). bounds (best_run xs)) same
 
 -- trees
 

@@ -1,4 +1,4 @@
--- What the longest run is among all runs.
+-- How the longest run stands to all other runs.
 use Rattle.std.specs.Prelude.{◌≡◌, ℕ, ◌+◌, ◌<◌, ◌≤◌, Bool, true, false, List, IfSome, None, slice_index_or}
 use Rattle.rs01_intervals.specs.Runs.{longest}
 

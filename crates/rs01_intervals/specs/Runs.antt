@@ -23,6 +23,6 @@ best_run (flag ∷ flags) = better (0, head_len (flag ∷ flags)) (behind 1 (bes
 abbrev pub bounds : ℕ × ℕ → Option (ℕ × ℕ)
 bounds run = if run.1 == 0 then None else Some (run.0, run.0 + run.1)
 
--- start and end of the longest run, or none where no flag is set
+-- the longest run by its start and its end
 unfoldable pub longest : List Bool → Option (ℕ × ℕ)
 longest flags = bounds (best_run flags)

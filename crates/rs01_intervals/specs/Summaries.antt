@@ -1,4 +1,4 @@
--- What is known of the runs in a part of the flags.
+-- The runs in a part of the flags, as far as joining parts asks for them.
 use Rattle.std.specs.Prelude.{ℕ, ◌+◌, ◌-◌, ◌==◌, ◌&&◌, if◌then◌else◌, Bool, List, [], ◌∷◌}
 use Rattle.rs01_intervals.specs.Runs.{head_len, better, best_run, behind}
 use Rattle.rs01_intervals.specs.declared.summary.Summary.{Summary}

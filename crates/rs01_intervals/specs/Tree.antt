@@ -4,7 +4,7 @@ use Rattle.std.specs.Int.{IsPowerOfTwo}
 use Rattle.rs01_intervals.specs.Summaries.{summary_of, joined}
 use Rattle.rs01_intervals.specs.declared.summary.Summary.{Summary}
 
--- the flags from one number up to another
+-- the flags whose numbers lie from one up to below another
 unfoldable pub between : List Bool → ℕ → ℕ → List Bool
 between flags from to = take (to - from) (drop from flags)
 

@@ -1,4 +1,4 @@
-//! What is known of the runs in a part of the flags.
+//! Parts of the flags, and what has to be known of each to find the longest run of them all.
 
 ghost use Rattle.std.specs.Prelude.{◌≡◌, ◌^◌, ◌<◌, ℕ, List, [], ◌∷◌};
 ghost use Rattle.rs01_intervals.specs.Runs.{better};
@@ -76,7 +76,8 @@ impl Summary {
     pub fn joined(left: Summary, right: Summary) -> Summary
         ensures { result ≡ joined left right }
     {
-        // The one run that lies in neither part alone.
+        // The one run that lies in neither part alone. It saturates, so that no condition on the
+        // parts is needed: of neighbours the tail never starts past the head's end.
         let over_seam = (
             left.tail_start,
             right.head_end.saturating_sub(left.tail_start),

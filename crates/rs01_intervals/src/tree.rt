@@ -9,6 +9,9 @@ ghost use Rattle.rs01_intervals.specs.Tree.{AllJoinExcept, Joins, LeavesStay, su
 
 use crate::summary::Summary;
 
+/// How many flags a leaf of the tree stands for: more would slow a change, fewer enlarge the tree.
+pub const CHUNK: usize = 64;
+
 /// The summary of a chunk. There must be fewer than 2^32 flags, and the chunk's number must be
 /// below 2^32; a chunk past the flags is empty.
 pub fn summary_of_chunk(flags: &[bool], chunk: usize) -> Summary
@@ -16,8 +19,8 @@ pub fn summary_of_chunk(flags: &[bool], chunk: usize) -> Summary
     requires chunk { chunk < 2 ^ 32 }
     ensures { result ≡ summary_of_chunk flags.now chunk }
 {
-    let from = (64 * chunk).min(flags.len());
-    let to = (64 * (chunk + 1)).min(flags.len());
+    let from = (CHUNK * chunk).min(flags.len());
+    let to = (CHUNK * (chunk + 1)).min(flags.len());
     let mut known = Summary::of_nothing(from);
     for place in from..to {
         known = Summary::joined(known, Summary::of_flag(place, flags[place]));

@@ -1,4 +1,4 @@
-//! The sectors that are still unread.
+//! Which sectors are still unread, by a flag each and a tree over the flags.
 
 ghost use Rattle.std.specs.Prelude.{◌≡◌, ◌<◌, ◌≤◌, Bool, List, IfOk, IfSome, false, true, length, replicate, slice_index_or, slice_set};
 ghost use Rattle.rs01_intervals.specs.Maximal.{flag_at};
@@ -6,7 +6,7 @@ ghost use Rattle.rs01_intervals.specs.Runs.{longest};
 ghost use Rattle.rs01_intervals.specs.Tree.{IsTree};
 
 use crate::summary::Summary;
-use crate::tree::{join_above, join_all, summary_of_chunk};
+use crate::tree::{CHUNK, join_above, join_all, summary_of_chunk};
 use std::alloc::{AllocError, Global};
 use std::marker::Model;
 
@@ -38,7 +38,7 @@ impl Unread {
         ensures { IfOk result (λ unread. unread ≡ replicate sectors true) }
     {
         let flags = vec![in alloc; true; sectors as usize]?;
-        let leaves = (flags.len() / 64 + 1).next_power_of_two();
+        let leaves = (flags.len() / CHUNK + 1).next_power_of_two();
         let mut nodes = vec![in alloc; Summary::of_nothing(0); 2 * leaves]?;
         for chunk in 0..leaves {
             nodes[leaves + chunk] = summary_of_chunk(&flags, chunk);
@@ -57,13 +57,13 @@ impl Unread {
         ensures { self.new ≡ slice_set self.old sector false }
     {
         let sector = sector as usize;
-        let chunk = sector / 64;
+        let chunk = sector / CHUNK;
         self.flags[sector] = false;
         self.nodes[self.leaves + chunk] = summary_of_chunk(&self.flags, chunk);
         join_above(&mut self.nodes, self.leaves, self.leaves + chunk);
     }
 
-    /// Whether a sector is unread. A sector that isn't there isn't.
+    /// Whether a sector is unread. A number past the last sector isn't.
     pub fn has(&self, sector: u32) -> bool
         ensures { result ≡ flag_at self.now sector }
     {
@@ -80,10 +80,11 @@ impl Unread {
         ensures within { IfSome result (λ run. (run.0 < run.1) × (run.1 ≤ length self.now)) }
     {
         let (start, len) = self.nodes[1].best;
-        if len == 0 {
-            None
+        let end = start + len;
+        if start < end {
+            Some((start as u32, end as u32))
         } else {
-            Some((start as u32, (start + len) as u32))
+            None
         }
     }
 }

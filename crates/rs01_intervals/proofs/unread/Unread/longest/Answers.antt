@@ -1,42 +1,30 @@
-use Rattle.std.proofs.Common.{length, ◌+◌, ◌∙◌, ◌≡◌, ◌≤◌, ℕ, ap, sym, List, arith}
+use Rattle.std.proofs.Common.{length, ◌∙◌, ap, sym, List, arith}
 use Rattle.std.specs.Prelude.{Bool}
-use Rattle.rs01_intervals.specs.Runs.{longest, bounds, best_run}
-use Rattle.rs01_intervals.proofs.Better.{best-fits, bounds-none, bounds-some}
-use Rattle.rs01_intervals.proofs.Covering.{root-is-best}
+use Rattle.rs01_intervals.proofs.Better.{bounds-none, bounds-some}
+use Rattle.rs01_intervals.proofs.Covering.{root-bounds, root-within}
 use Rattle.rs01_intervals.proofs.unread.Unread.longest.Goals as goal
 
--- a run that is the longest ends within the flags
-within : (flags : List Bool) (run : ℕ × ℕ) → run ≡ best_run flags → run.0 + run.1 ≤ length flags
-within flags run e = omega (arith, ap (λ (r : ℕ × ℕ). r.0 + r.1) e, best-fits flags)
+pub overflow_add-end : goal.overflow_add-end
+overflow_add-end c = omega (arith, c.self.invariant.few, root-within _ _ _ _ c.self.invariant c.index.ensures)
 
 pub overflow_cast-result : goal.overflow_cast-result
-overflow_cast-result c =
-    let best = root-is-best _ _ _ _ c.self.invariant c.index.ensures in
-    omega (arith, c.self.invariant.few, within _ _ best)
+overflow_cast-result c = omega (arith, c.self.invariant.few, root-within _ _ _ _ c.self.invariant c.index.ensures)
 
-pub overflow_add-result : goal.overflow_add-result
-overflow_add-result c =
-    let best = root-is-best _ _ _ _ c.self.invariant c.index.ensures in
-    omega (arith, c.self.invariant.few, within _ _ best)
+pub overflow_cast-result-then-start-end : goal.overflow_cast-result-then-start-end
+overflow_cast-result-then-start-end c =
+    omega (arith, c.self.invariant.few, root-within _ _ _ _ c.self.invariant c.index.ensures)
 
-pub overflow_cast-result-else-len-eq0 : goal.overflow_cast-result-else-len-eq0
-overflow_cast-result-else-len-eq0 c =
-    let best = root-is-best _ _ _ _ c.self.invariant c.index.ensures in
-    omega (arith, c.self.invariant.few, within _ _ best)
+pub returns-then-start-end-clause-value : goal.returns-then-start-end-clause-value
+returns-then-start-end-clause-value c =
+    sym (bounds-some _ (λ none. omega (arith, none, c.if-start-end.true)))
+    ∙ root-bounds _ _ _ _ _ c.self.invariant c.index.ensures c.self.view_is
 
-pub returns-then-len-eq0-clause-value : goal.returns-then-len-eq0-clause-value
-unfolding longest
-returns-then-len-eq0-clause-value c =
-    let best = root-is-best _ _ _ _ c.self.invariant c.index.ensures in
-    sym (bounds-none _ c.if-len-eq0.true) ∙ ap bounds best ∙ ap (λ (flags : List Bool). longest flags) c.self.view_is
+pub returns-then-start-end-clause-within : goal.returns-then-start-end-clause-within
+returns-then-start-end-clause-within c =
+    let all = ap (λ (flags : List Bool). length flags) c.self.view_is in
+    (c.if-start-end.true, omega (arith, all, root-within _ _ _ _ c.self.invariant c.index.ensures))
 
-pub returns-else-len-eq0-clause-value : goal.returns-else-len-eq0-clause-value
-unfolding longest
-returns-else-len-eq0-clause-value c =
-    let best = root-is-best _ _ _ _ c.self.invariant c.index.ensures in
-    sym (bounds-some _ c.if-len-eq0.false) ∙ ap bounds best ∙ ap (λ (flags : List Bool). longest flags) c.self.view_is
-
-pub returns-else-len-eq0-clause-within : goal.returns-else-len-eq0-clause-within
-returns-else-len-eq0-clause-within c =
-    let best = root-is-best _ _ _ _ c.self.invariant c.index.ensures in
-    (omega arith, omega (arith, within _ _ best, ap (λ (flags : List Bool). length flags) c.self.view_is))
+pub returns-else-start-end-clause-value : goal.returns-else-start-end-clause-value
+returns-else-start-end-clause-value c =
+    sym (bounds-none c.index.result.now.best (omega (arith, c.if-start-end.false)))
+    ∙ root-bounds _ _ _ _ _ c.self.invariant c.index.ensures c.self.view_is
