@@ -2,6 +2,7 @@
 //! what needn't be, since the parity makes up for it.
 #![tactic(auto)]
 
+pub mod laws;
 mod settling;
 mod state;
 mod states;
