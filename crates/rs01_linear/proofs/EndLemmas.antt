@@ -1,16 +1,16 @@
 -- What a reading comes to, from what was found, and from what became of the image file.
 use Rattle.std.proofs.Common.{◌≡◌, ℕ, ◌-◌, ◌^◌, ◌∙◌, ap, arith, sym, refl, subst, List, [], min, inl, inr, ◌⊎◌, length}
-use Rattle.std.specs.Prelude.{Option, Some, Result, Ok, Err, IsOk, IsOkAnd, IsSomeAnd, IsTrue}
+use Rattle.std.specs.Prelude.{Option, Some, Result, Ok, Err, IsOk, IsOkAnd, IsTrue}
 use Rattle.std.specs.Option.{unwrap_or}
 use Rattle.rs01_outside.specs.DriveView.{DriveView}
 use Rattle.rs01_rack.specs.Rack.{RackState, views_of}
 use Rattle.rs01_ecchead.specs.Erased.{Known, image_len}
 use Rattle.rs01_report.specs.declared.reports.ReadReport.{ReadReport}
 use Rattle.rs01_linear.specs.Course.{Manner, read_to, whole_reading}
-use Rattle.rs01_linear.specs.Left.{IsOnTheWay, image_left, marked}
+use Rattle.rs01_linear.specs.Left.{image_left, marked}
 use Rattle.rs01_linear.specs.Marking.{IsMixed}
 use Rattle.rs01_linear.specs.Medium.{Found, IsMedium, found, known_of}
-use Rattle.rs01_linear.specs.Outcome.{IsLeftAt, IsReadInto, Reads}
+use Rattle.rs01_linear.specs.Outcome.{IsLeftAt, IsOnTheWay, IsReadInto, Reads}
 use Rattle.rs01_linear.specs.Refusal.{IsOfMedium, IsOfReading, IsOfWork, writes_badly}
 use Rattle.rs01_linear.specs.Report.{report_of}
 use Rattle.rs01_linear.specs.declared.medium.Medium.{Medium}
@@ -47,7 +47,7 @@ left_from known known' manner before before' file old old' new k v b left =
       inside = left.inside;
       views_are = left.views_are ∙ ap (λ (vs : List DriveView). (read_to known manner (unwrap_or before []) vs left.passed).views) v;
       file_is =
-          subst (λ (vs : List DriveView). (file ≡ before) ⊎ IsSomeAnd file (IsOnTheWay (unwrap_or before []) (marked known (unwrap_or before [])) (image_left known manner (unwrap_or before []) vs))) v left.file_is;
+          subst (λ (vs : List DriveView). IsOnTheWay left.passed (unwrap_or before []) (marked known (unwrap_or before [])) (image_left known manner (unwrap_or before []) vs) before file) v left.file_is;
     } in
     subst (λ (o : Option (List ℕ)). IsLeftAt known' manner (unwrap_or o []) old' new o file) b
     (subst (λ (n : Known). IsLeftAt n manner (unwrap_or before []) old' new before file) (sym k) here)
@@ -97,10 +97,7 @@ left_at known manner rack opened file left = record {
   passed = 0;
   inside = omega arith;
   views_are = refl;
-  file_is = elim left [
-    | inl same ↦ inl same
-    | inr mix ↦ inr (rw mix.1 (mix.0, inl refl))
-  ];
+  file_is = inl (refl, left);
 }
 
 -- the image file wasn't got ready

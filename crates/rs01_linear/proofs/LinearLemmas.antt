@@ -1,6 +1,6 @@
 -- From an image file that is ready to what is left at the end.
 use Rattle.std.proofs.Common.{◌≡◌, ℕ, ◌-◌, ◌∙◌, ap, arith, sym, refl, List, [], ◌++◌, length, take, drop, append-nil, inr}
-use Rattle.std.specs.Prelude.{Option, Some, Result, Err, IsSomeAnd}
+use Rattle.std.specs.Prelude.{Option, Some, Result, Err}
 use Rattle.std.specs.List.{flat_map, range_with_len}
 use Rattle.std.specs.Option.{unwrap_or}
 use Rattle.std.proofs.Math.Seq.{take-append_seam, drop-append_seam}
@@ -11,9 +11,9 @@ use Rattle.rs01_rack.specs.Rack.{RackState, views_of}
 use Rattle.rs01_ecchead.specs.Erased.{Known, image_len}
 use Rattle.rs01_report.specs.declared.reports.ReadReport.{ReadReport}
 use Rattle.rs01_linear.specs.Course.{Manner, read_to, whole_reading}
-use Rattle.rs01_linear.specs.Left.{IsOnTheWay, first_fate, first_fates, image_left, marked, marked_sector, mixed}
+use Rattle.rs01_linear.specs.Left.{first_fate, first_fates, image_left, marked, marked_sector, mixed}
 use Rattle.rs01_linear.specs.Linear.{IsPrepared, ReadsPrepared}
-use Rattle.rs01_linear.specs.Marking.{IsMixed, place}
+use Rattle.rs01_linear.specs.Marking.{place}
 use Rattle.rs01_linear.specs.Outcome.{IsReadInto, asked_since}
 use Rattle.rs01_linear.specs.Report.{report_of}
 use Rattle.rs01_linear.specs.Standing.{Halted, Stands}
@@ -91,16 +91,13 @@ read_whole known manner before file old new reading prepared told asked surplus 
           is ∙ (λ i. report_of (fates_whole known manner y (views_of old) reading.fates.items st.fates_are i) (asks i) ((rest ∙ ap (λ k. k - image_len known) size) i));
     }
 
-on_the_way : (y marked left : List ℕ) (file : Option (List ℕ)) → IsMixed left marked file → IsSomeAnd file (IsOnTheWay y marked left)
-on_the_way y marked left file mix = rw mix.1 (mix.0, inr refl)
-
 pub left_halted : (known : Known) (manner : Manner) (before file : Option (List ℕ)) (old new : RackState) (result : Result ReadReport ReadRefusal) (why : ReadRefusal) → result ≡ Err why
     → Halted known manner (unwrap_or before []) (views_of old) new file → ReadsPrepared known manner before old new file result
 left_halted known manner before file old new result why is halted = rw is (record {
   passed = halted.passed;
   inside = halted.inside;
   views_are = halted.views_are;
-  file_is = inr (on_the_way (unwrap_or before []) _ _ file halted.file_is);
+  file_is = inr halted.file_is;
 })
 
 pub left_lacking : (known : Known) (manner : Manner) (before file : Option (List ℕ)) (old new : RackState) (reading : Reading) (result : Result ReadReport ReadRefusal) (why : ReadRefusal) → result ≡ Err why
@@ -109,5 +106,5 @@ left_lacking known manner before file old new reading result why is st = rw is (
   passed = known.sectors;
   inside = omega arith;
   views_are = st.views_are;
-  file_is = inr (on_the_way (unwrap_or before []) _ _ file (place known known.sectors, st.file_is));
+  file_is = inr (place known known.sectors, st.file_is);
 })

@@ -1,5 +1,5 @@
 -- What a reading leaves of the image file y.
-use Rattle.std.specs.Prelude.{ℕ, ◌≡◌, ◌⊎◌, List, ◌++◌, drop, if◌then◌else◌, map, take}
+use Rattle.std.specs.Prelude.{ℕ, List, ◌++◌, drop, if◌then◌else◌, map, take}
 use Rattle.std.specs.List.{flat_map, range_with_len}
 use Rattle.rs01_layers.specs.Sectors.{length_of}
 use Rattle.rs01_sums.specs.Marker.{marker}
@@ -25,11 +25,6 @@ image_left known manner y views = (whole_reading known manner y views).image ++ 
 -- the first bytes of one file and the others of another
 abbrev pub mixed : ℕ → List ℕ → List ℕ → List ℕ
 mixed n one other = take n one ++ drop n other
-
--- a file on the way: the old one whose first bytes are marked, or the marked one whose first bytes are those of the file
--- that is left at the end
-abbrev pub IsOnTheWay : (old marked left file : List ℕ) → Type 0
-IsOnTheWay old marked left file = (n : ℕ) × ((file ≡ mixed n marked old) ⊎ (file ≡ mixed n left marked))
 
 -- what is known of a sector before anything is asked for
 abbrev pub first_fate : Known → List ℕ → ℕ → Fate

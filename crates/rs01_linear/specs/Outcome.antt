@@ -1,5 +1,5 @@
 -- What a reading into a named image leaves and answers. The image file before is y, and none where it wasn't there.
-use Rattle.std.specs.Prelude.{ℕ, ◌≡◌, ◌≤◌, ◌⊎◌, ◌-◌, ◌^◌, List, [], Option, Some, Result, Ok, Err, IsOk, IsOkAnd, IsSomeAnd, IsTrue, length, min}
+use Rattle.std.specs.Prelude.{ℕ, ◌≡◌, ◌≤◌, ◌⊎◌, ◌-◌, ◌^◌, List, [], Option, Some, Result, Ok, Err, IsOk, IsOkAnd, IsTrue, length, min}
 use Rattle.std.specs.Borrow.{Bor}
 use Rattle.std.specs.Option.{unwrap_or}
 use Rattle.rs01_outside.specs.DeskState.{DeskState}
@@ -9,7 +9,8 @@ use Rattle.rs01_ecchead.specs.Erased.{Known, image_len}
 use Rattle.rs01_report.specs.declared.reports.ReadReport.{ReadReport}
 use Rattle.rs01_linear.specs.Course.{Manner, manner_of, read_to, whole_reading}
 use Rattle.rs01_linear.specs.Lasting.{AllRoseBy}
-use Rattle.rs01_linear.specs.Left.{IsOnTheWay, image_left, marked}
+use Rattle.rs01_linear.specs.Left.{image_left, marked}
+use Rattle.rs01_linear.specs.Marking.{IsMixed}
 use Rattle.rs01_linear.specs.Medium.{IsUnfit, file_given, found}
 use Rattle.rs01_linear.specs.Refusal.{IsOfMedium, writes_badly}
 use Rattle.rs01_linear.specs.Report.{report_of}
@@ -26,12 +27,18 @@ pub record IsReadInto (known : Known) (manner : Manner) (y : List ℕ) (old new 
   pub views_are : views_of new ≡ (whole_reading known manner y (views_of old)).views
   pub told_is : told ≡ report_of (whole_reading known manner y (views_of old)).fates (asked_since old new) (length y - image_len known)
 
--- it wasn't: the drives were asked for the first sectors at most, and the image file is as it was or on the way
+-- the image file of a reading that was left: as it was, or the old one whose first bytes are marked, while no sector was
+-- passed; and the marked one whose first bytes are those of the file that is left at the end
+abbrev pub IsOnTheWay : (passed : ℕ) → (old marked left : List ℕ) → (before file : Option (List ℕ)) → Type 0
+IsOnTheWay passed old marked left before file =
+    ((passed ≡ 0) × ((file ≡ before) ⊎ IsMixed marked old file)) ⊎ IsMixed left marked file
+
+-- it wasn't: the drives were asked for the first sectors at most, and the image file is on the way
 pub record IsLeftAt (known : Known) (manner : Manner) (y : List ℕ) (old new : RackState) (before file : Option (List ℕ)) : Type 0 where
   pub passed : ℕ
   pub inside : passed ≤ known.sectors
   pub views_are : views_of new ≡ (read_to known manner y (views_of old) passed).views
-  pub file_is : (file ≡ before) ⊎ IsSomeAnd file (IsOnTheWay y (marked known y) (image_left known manner y (views_of old)))
+  pub file_is : IsOnTheWay passed y (marked known y) (image_left known manner y (views_of old)) before file
 
 -- nothing has changed: neither the drives' views nor the image file
 pub record IsUntouched (old new : RackState) (before file : Option (List ℕ)) : Type 0 where

@@ -1,5 +1,5 @@
 -- Why a medium wasn't read.
-use Rattle.std.specs.Prelude.{Bool, false, true, IfErr, List, Result, Ok, Err, ℕ}
+use Rattle.std.specs.Prelude.{◌≡◌, Bool, false, true, IfErr, IsTrue, List, Result, Ok, Err, ℕ}
 use Rattle.rs01_outside.specs.DeskState.{DeskState, WorksOn}
 use Rattle.rs01_ecchead.specs.Opened.{IsOfFile}
 use Rattle.rs01_ecchead.specs.declared.opened.EccRefusal.{EccRefusal}
@@ -110,3 +110,7 @@ TellsFaults (DriveSize n) = Unit {0}
 TellsFaults ReadFault = Unit {0}
 TellsFaults WriteFault = Unit {0}
 TellsFaults OutOfMemory = Unit {0}
+
+-- a medium that is refused is refused before any file is touched, whatever the drives tell
+abbrev pub LeavesAll : (old new : DeskState) → ReadRefusal → Type 0
+LeavesAll old new why = IsOfMedium why → IsTrue old.tells → new.files ≡ old.files

@@ -75,7 +75,7 @@ told_of (Err why) reading old new report elsewhere asks p = absurd p
 whole : (r : Result Found ReadRefusal) (reading : Reading) (old new : World) (report : ReadReport)
     → IsOkAnd r (λ f. IsReadInto f.known reading.manner (unwrap_or (old.desk.files reading.image) []) old.rack new.rack (new.desk.files reading.image) report)
     → ReadsSoFar reading (outside_of old) (outside_of new) r
-whole (Ok medium) reading old new report p = record { passed = medium.known.sectors; inside = omega arith; views = p.views_are; file = inr (inl p.file_is) }
+whole (Ok medium) reading old new report p = record { passed = medium.known.sectors; inside = omega arith; views = p.views_are; file = inl p.file_is }
 whole (Err why) reading old new report p = absurd p
 
 -- the medium was read to its end
@@ -99,7 +99,7 @@ untouched : (r : Result Found ReadRefusal) (reading : Reading) (old new : World)
     → IsUntouched old.rack new.rack (old.desk.files reading.image) (new.desk.files reading.image)
     → ReadsSoFar reading (outside_of old) (outside_of new) r
 unfolding read_to
-untouched (Ok medium) reading old new same = record { passed = 0; inside = omega arith; views = same.views_are; file = inl same.file_is }
+untouched (Ok medium) reading old new same = record { passed = 0; inside = omega arith; views = same.views_are; file = inr (inl (refl, inl same.file_is)) }
 untouched (Err why) reading old new same = (same.views_are, same.file_is)
 
 left_at : (r : Result Found ReadRefusal) (reading : Reading) (old new : World)
@@ -109,10 +109,7 @@ left_at (Ok medium) reading old new left = record {
   passed = left.passed;
   inside = left.inside;
   views = left.views_are;
-  file = elim left.file_is [
-    | inl same ↦ inl same
-    | inr way ↦ inr (inr way)
-  ];
+  file = inr left.file_is;
 }
 left_at (Err why) reading old new left = absurd left
 

@@ -1,9 +1,10 @@
 -- The work of `read`, in rising order.
-use Rattle.std.specs.Prelude.{ℕ, ◌≡◌, ◌≤◌, ◌+◌, ◌-◌, ◌^◌, ◌==◌, ◌⊎◌, false, true, if◌then◌else◌, List, length, IsOkAnd, IsSomeAnd, Option, Some, Result, Ok, Err, min}
+use Rattle.std.specs.Prelude.{ℕ, ◌≡◌, ◌≤◌, ◌+◌, ◌-◌, ◌^◌, ◌==◌, ◌⊎◌, false, true, if◌then◌else◌, List, length, IsOkAnd, Option, Some, Result, Ok, Err, min}
 use Rattle.rs01_ecchead.specs.Erased.{image_len}
 use Rattle.rs01_linear.specs.Course.{Course, Manner, read_to, whole_reading}
 use Rattle.rs01_linear.specs.Lasting.{asks_in}
-use Rattle.rs01_linear.specs.Left.{IsOnTheWay, image_left, marked}
+use Rattle.rs01_linear.specs.Left.{image_left, marked}
+use Rattle.rs01_linear.specs.Outcome.{IsOnTheWay}
 use Rattle.rs01_linear.specs.Medium.{Found}
 use Rattle.rs01_linear.specs.Report.{report_of}
 use Rattle.rs01_linear.specs.declared.refusal.ReadRefusal.{ReadRefusal}
@@ -63,18 +64,19 @@ pub record HasRead (reading : Reading) (old new : Outside) (put : List ℕ) (sta
   pub lines : put ≡ read_lines (report_in reading medium old new) reading.image
   pub number : status ≡ read_status (report_in reading medium old new)
 
--- an image file is as before, or the one that is left at the end, or on the way there
-abbrev pub IsOneOf : Reading → Found → Outside → Option (List ℕ) → Type 0
-IsOneOf reading medium old file =
-    (file ≡ old.files reading.image) ⊎ (file ≡ Some (left_in reading medium old))
-    ⊎ IsSomeAnd file (IsOnTheWay (image_in reading old) (marked medium.known (image_in reading old)) (left_in reading medium old))
+-- an image file is the one that is left at the end, or on the way there
+abbrev pub IsOneOf : Reading → Found → Outside → ℕ → Option (List ℕ) → Type 0
+IsOneOf reading medium old passed file =
+    (file ≡ Some (left_in reading medium old))
+    ⊎ IsOnTheWay passed (image_in reading old) (marked medium.known (image_in reading old)) (left_in reading medium old)
+    (old.files reading.image) file
 
 -- some first sectors of the medium were passed, and the image file is one of those
 pub record IsReadSoFar (reading : Reading) (old new : Outside) (medium : Found) : Type 0 where
   pub passed : ℕ
   pub inside : passed ≤ medium.known.sectors
   pub views : new.views ≡ (read_to medium.known reading.manner (image_in reading old) old.views passed).views
-  pub file : IsOneOf reading medium old (new.files reading.image)
+  pub file : IsOneOf reading medium old passed (new.files reading.image)
 
 -- what may stand by what is found: nothing has changed where the medium is refused
 abbrev pub ReadsSoFar : Reading → (old new : Outside) → Result Found ReadRefusal → Type 0
