@@ -2,6 +2,7 @@ mod AskLemmas
 mod CountLemmas
 mod CourseLemmas
 mod EndLemmas
+mod FlushLemmas
 mod JudgeLemmas
 mod LaidLemmas
 pub mod LastingLemmas
@@ -9,6 +10,7 @@ mod LinearLemmas
 mod MarkLemmas
 mod MediumLemmas
 mod MixedLemmas
+mod PassLemmas
 mod PrepareLemmas
 mod RunLemmas
 mod StandLemmas

@@ -1,11 +1,12 @@
 -- From an image file that is ready to what is left at the end.
-use Rattle.std.proofs.Common.{◌≡◌, ℕ, ◌-◌, ◌∙◌, ap, arith, sym, refl, List, [], ◌++◌, length, take, drop, append-nil, inr}
+use Rattle.std.proofs.Common.{◌≡◌, ℕ, ◌-◌, ◌∙◌, ap, arith, sym, refl, List, [], ◌++◌, length, take, drop, append-nil, inl, inr}
 use Rattle.std.specs.Prelude.{Option, Some, Result, Err}
 use Rattle.std.specs.List.{flat_map, range_with_len}
 use Rattle.std.specs.Option.{unwrap_or}
 use Rattle.std.proofs.Math.Seq.{take-append_seam, drop-append_seam}
 use Rattle.std.proofs.lemmas.List.{drop_all}
 use Rattle.std.proofs.lemmas.List.FromFn.{length-map-range_with_len}
+use Rattle.rs01_lists.specs.Bytes.{part}
 use Rattle.rs01_outside.specs.DriveView.{DriveView}
 use Rattle.rs01_rack.specs.Rack.{RackState, views_of}
 use Rattle.rs01_ecchead.specs.Erased.{Known, image_len}
@@ -16,7 +17,7 @@ use Rattle.rs01_linear.specs.Linear.{IsPrepared, ReadsPrepared}
 use Rattle.rs01_linear.specs.Marking.{place}
 use Rattle.rs01_linear.specs.Outcome.{IsReadInto, asked_since}
 use Rattle.rs01_linear.specs.Report.{report_of}
-use Rattle.rs01_linear.specs.Standing.{Halted, Stands}
+use Rattle.rs01_linear.specs.Standing.{Halted, Passed, Stands}
 use Rattle.rs01_linear.specs.declared.fate.Fate.{Fate}
 use Rattle.rs01_linear.specs.declared.prepared.Prepared.{Prepared}
 use Rattle.rs01_linear.specs.declared.reading.Reading.{Reading}
@@ -56,18 +57,20 @@ left_whole known manner y views sized =
 -- where nothing was asked for yet
 pub stands_start : (known : Known) (manner : Manner) (before file : Option (List ℕ)) (rack : RackState) (prepared : Prepared) (reading : Reading) → Sized known
     → reading.next ≡ 0 → reading.fates.items ≡ prepared.fates.items → IsPrepared known before file prepared
-    → Stands known manner (unwrap_or before []) (views_of rack) 0 rack reading file
+    → reading.first ≡ 0 → reading.bytes.items ≡ [] → Stands known manner (unwrap_or before []) (views_of rack) 0 rack reading file
 unfolding read_to
-stands_start known manner before file rack prepared reading sized none same ready =
+stands_start known manner before file rack prepared reading sized none same ready first empty =
     let y = unwrap_or before [] in
     let zero_place : place known 0 ≡ 0 = omega arith in
+    let no_bytes : place known 0 - place known reading.first ≡ 0 = omega arith in
     record {
-      views_are = refl;
-      next_is = none;
-      fates_are = same ∙ ready.fates_are;
-      file_is =
-          ready.file_is ∙ ap Some (marked_whole known y sized)
-          ∙ ap (λ k. Some (mixed k (image_left known manner y (views_of rack)) (marked known y))) (sym zero_place);
+      follows = record { views_are = refl; next_is = none; fates_are = same ∙ ready.fates_are };
+      runs = record {
+        file_is =
+            ready.file_is ∙ ap Some (marked_whole known y sized)
+            ∙ ap (λ k. Some (mixed k (image_left known manner y (views_of rack)) (marked known y))) (sym (ap (place known) first ∙ zero_place));
+        run_is = empty ∙ sym (ap (part (image_left known manner y (views_of rack)) (place known reading.first)) no_bytes);
+      };
     }
 
 -- where all was asked for
@@ -79,7 +82,7 @@ fates_whole known manner y views fates are =
     ∙ append-nil (read_to known manner y views known.sectors).fates
 
 pub read_whole : (known : Known) (manner : Manner) (before file : Option (List ℕ)) (old new : RackState) (reading : Reading) (prepared : Prepared) (told : ReadReport) (asked surplus : ℕ) → Sized known
-    → Stands known manner (unwrap_or before []) (views_of old) known.sectors new reading file
+    → Passed known manner (unwrap_or before []) (views_of old) new reading file
     → told ≡ report_of reading.fates.items asked surplus → asked ≡ asked_since old new → prepared.size ≡ length (unwrap_or before []) → surplus ≡ prepared.size - image_len known
     → IsReadInto known manner (unwrap_or before []) old new file told
 read_whole known manner before file old new reading prepared told asked surplus sized st is asks size rest =
@@ -101,10 +104,21 @@ left_halted known manner before file old new result why is halted = rw is (recor
 })
 
 pub left_lacking : (known : Known) (manner : Manner) (before file : Option (List ℕ)) (old new : RackState) (reading : Reading) (result : Result ReadReport ReadRefusal) (why : ReadRefusal) → result ≡ Err why
-    → Stands known manner (unwrap_or before []) (views_of old) known.sectors new reading file → ReadsPrepared known manner before old new file result
+    → Passed known manner (unwrap_or before []) (views_of old) new reading file → ReadsPrepared known manner before old new file result
 left_lacking known manner before file old new reading result why is st = rw is (record {
   passed = known.sectors;
   inside = omega arith;
   views_are = st.views_are;
   file_is = inr (place known known.sectors, st.file_is);
+})
+
+-- want of memory before anything was asked for
+pub left_unread : (known : Known) (manner : Manner) (before file : Option (List ℕ)) (rack : RackState) (prepared : Prepared) (result : Result ReadReport ReadRefusal) (why : ReadRefusal) → Sized known → result ≡ Err why
+    → IsPrepared known before file prepared → ReadsPrepared known manner before rack rack file result
+unfolding read_to
+left_unread known manner before file rack prepared result why sized is ready = rw is (record {
+  passed = 0;
+  inside = omega arith;
+  views_are = refl;
+  file_is = inl (refl, inr (place known known.sectors, ready.file_is));
 })

@@ -1,22 +1,24 @@
 -- What is good in an image file stays, whatever is put in the places of the other sectors.
-use Rattle.std.proofs.Common.{◌≡◌, ◌≢◌, ℕ, zero, suc, ◌+◌, ◌-◌, ◌*◌, ◌/◌, ◌<◌, ◌≤◌, ◌∙◌, ap, arith, sym, refl, subst, true, false, Some, None, List, [], ◌∷◌, ◌++◌, length, take, drop, get_or, ⊎_elim, inl, inr}
-use Rattle.std.specs.Prelude.{◌⊎◌, Err, IsSomeAnd, Option}
+use Rattle.std.proofs.Common.{◌≡◌, ℕ, zero, suc, ◌+◌, ◌-◌, ◌*◌, ◌/◌, ◌<◌, ◌≤◌, ◌∙◌, ap, arith, sym, refl, true, false, Some, None, List, [], ◌∷◌, ◌++◌, length, take, drop, get_or, ⊎_elim, inl, inr}
+use Rattle.std.specs.Prelude.{◌⊎◌, Bool, Result, Ok, Err, IsSomeAnd, Option}
 use Rattle.std.specs.Option.{unwrap_or}
 use Rattle.std.proofs.Math.ListN.{set}
 use Rattle.std.proofs.lemmas.Bool.{cases_lt}
 use Rattle.std.proofs.lemmas.List.{get_or-append_right, get_or-drop, get_or-take, get_or_append_left, length-append, length-drop, length-take, length-take-le}
 use Rattle.rs01_lists.specs.Bytes.{padded, zeros}
 use Rattle.rs01_lists.proofs.Padding.{length-zeros}
-use Rattle.rs01_outside.specs.Files.{Files, Writes, WritesAt, put_at}
+use Rattle.rs01_outside.specs.Files.{Files, Writes, put_at}
 use Rattle.rs01_ecchead.specs.Erased.{Known, image_len, is_erased}
 use Rattle.rs01_linear.specs.Course.{fate_of}
-use Rattle.rs01_linear.specs.Marking.{is_left_out}
-use Rattle.rs01_linear.specs.Spared.{Guards, IsToStay, Spares}
+use Rattle.rs01_linear.specs.Marking.{is_left_out, place}
+use Rattle.rs01_linear.specs.Spared.{AsksBad, GuardsRun, IsToStay, Spares}
+use Rattle.rs01_linear.specs.Standing.{HasRun, PutsRun, TakesBad}
 use Rattle.rs01_linear.specs.declared.asking.Asked.{Asked}
 use Rattle.rs01_linear.specs.declared.asking.Asked.TheVariants as asked
 use Rattle.rs01_linear.specs.declared.fate.Fate.{Fate}
 use Rattle.rs01_linear.specs.declared.fate.Fate.TheVariants.{Kept}
-use Rattle.rs01_linear.proofs.LaidLemmas.{Sized, place_more, place_of, place_within, width, width_le}
+use Rattle.rs01_linear.specs.declared.reading.Reading.{Reading}
+use Rattle.rs01_linear.specs.declared.refusal.ReadRefusal.{ReadRefusal}
 
 -- a list that is padded
 length-padded : (w : ℕ) (xs : List ℕ) → length xs ≤ length (padded w xs)
@@ -62,41 +64,72 @@ put_same file bytes at k low where_is =
     where_is
     ∙ padded_at (at + length bytes) file k low
 
--- a byte that is to stay doesn't stand in a sector that isn't good
-apart : (known : Known) (y : List ℕ) (s k n : ℕ) → Sized known → s < known.sectors → is_erased known y s ≡ true → n ≤ width known s → IsToStay known y k → (k < 2048 * s) ⊎ (2048 * s + n ≤ k)
-apart known y s k n sized below bad few stay =
+-- a byte that is to stay doesn't stand in a run of sectors that weren't good
+apart : (known : Known) (y : List ℕ) (first past k n : ℕ) → first < past → n ≤ place known past - place known first
+    → ((i : ℕ) → first ≤ i → i < past → is_erased known y i ≡ true) → IsToStay known y k → (k < 2048 * first) ⊎ (2048 * first + n ≤ k)
+apart known y first past k n some few bad stay =
     ⊎_elim
-    (λ (past : image_len known ≤ k). inr (omega (arith, past, few, place_more known s sized below, place_of known s sized below, place_within known (s + 1))))
-    (λ (good : is_erased known y (k / 2048) ≡ false).
-    let ne : k / 2048 ≢ s = λ e. (let f : true ≡ false = sym bad ∙ ap (is_erased known y) (sym e) ∙ good in cc) in
+    (λ (beyond : image_len known ≤ k).
     ⊎_elim
-    (λ (low : k < 2048 * s). inl low)
-    (λ (high : 2048 * s ≤ k).
+    (λ (low : k < 2048 * first). inl low)
+    (λ (high : 2048 * first ≤ k).
     inr (⊎_elim
-    (λ (inside : k < 2048 * s + 2048). absurd (ne (omega (arith, inside, high))))
-    (λ (behind : 2048 * s + 2048 ≤ k). omega (arith, behind, few, width_le known s sized))
-    (cases_lt k (2048 * s + 2048))))
-    (cases_lt k (2048 * s)))
+    (λ (inside : 2048 * first < image_len known). omega (arith, beyond, few, inside))
+    (λ (out : image_len known ≤ 2048 * first). omega (arith, beyond, few, out, high, some))
+    (cases_lt (2048 * first) (image_len known))))
+    (cases_lt k (2048 * first)))
+    (λ (good : is_erased known y (k / 2048) ≡ false).
+    ⊎_elim
+    (λ (low : k < 2048 * first). inl low)
+    (λ (high : 2048 * first ≤ k).
+    inr (⊎_elim
+    (λ (inside : k < 2048 * past).
+    let e : true ≡ false = sym (bad (k / 2048) (omega (arith, high)) (omega (arith, inside))) ∙ good in
+    absurd (true_not e))
+    (λ (behind : 2048 * past ≤ k).
+    ⊎_elim
+    (λ (inside : 2048 * first < image_len known). omega (arith, behind, few, inside))
+    (λ (out : image_len known ≤ 2048 * first). omega (arith, few, out, high, some))
+    (cases_lt (2048 * first) (image_len known)))
+    (cases_lt k (2048 * past))))
+    (cases_lt k (2048 * first)))
     stay
+  where
+    true_not : true ≡ false → ⊥
+    true_not e = cc
 
--- bytes in the place of a sector that isn't good
-spares_put : (known : Known) (y file bytes : List ℕ) (s : ℕ) → Sized known → s < known.sectors → is_erased known y s ≡ true → length bytes ≤ width known s
-    → Spares known y file → Spares known y (put_at file (2048 * s) bytes)
-spares_put known y file bytes s sized below bad few spares = record {
-  longer = omega (arith, spares.longer, put_longer file bytes (2048 * s));
+-- bytes in the place of such a run
+spares_put : (known : Known) (y file bytes : List ℕ) (first past : ℕ) → first < past → length bytes ≤ place known past - place known first
+    → ((i : ℕ) → first ≤ i → i < past → is_erased known y i ≡ true) → Spares known y file → Spares known y (put_at file (2048 * first) bytes)
+spares_put known y file bytes first past some few bad spares = record {
+  longer = omega (arith, spares.longer, put_longer file bytes (2048 * first));
   same = λ k low stay.
-      put_same file bytes (2048 * s) k (omega (arith, low, spares.longer)) (apart known y s k (length bytes) sized below bad few stay)
+      put_same file bytes (2048 * first) k (omega (arith, low, spares.longer)) (apart known y first past k (length bytes) some few bad stay)
       ∙ spares.same k low stay;
 }
 
 -- the same under a name
-put_under : (known : Known) (y : List ℕ) (old new : Files) (name bytes : List ℕ) (s : ℕ) → Sized known → s < known.sectors → is_erased known y s ≡ true → length bytes ≤ width known s
-    → IsSomeAnd (old name) (Spares known y) → Writes old new name (2048 * s) bytes → IsSomeAnd (new name) (Spares known y)
-put_under known y old new name bytes s sized below bad few spares written = rw written.there (in_file (old name) spares)
+put_under : (known : Known) (y : List ℕ) (old new : Files) (name bytes : List ℕ) (first past : ℕ) → first < past → length bytes ≤ place known past - place known first
+    → ((i : ℕ) → first ≤ i → i < past → is_erased known y i ≡ true)
+    → IsSomeAnd (old name) (Spares known y) → Writes old new name (2048 * first) bytes → IsSomeAnd (new name) (Spares known y)
+put_under known y old new name bytes first past some few bad spares written = rw written.there (in_file (old name) spares)
   where
-    in_file : (o : Option (List ℕ)) → IsSomeAnd o (Spares known y) → Spares known y (put_at (unwrap_or o []) (2048 * s) bytes)
+    in_file : (o : Option (List ℕ)) → IsSomeAnd o (Spares known y) → Spares known y (put_at (unwrap_or o []) (2048 * first) bytes)
     in_file None spares = absurd spares
-    in_file (Some file) spares = spares_put known y file bytes s sized below bad few spares
+    in_file (Some file) spares = spares_put known y file bytes first past some few bad spares
+
+-- the run was written, or its writing failed
+pub spared_run : (known : Known) (y : List ℕ) (past : ℕ) (reading : Reading) (old new : Files) (name : List ℕ) (result : Result Unit ReadRefusal)
+    → HasRun known past reading → GuardsRun known y past reading (old name) → PutsRun old new name past reading result → IsSomeAnd (new name) (Spares known y)
+spared_run known y past reading old new name result has guards (inl same) = rw (ap (λ (f : Files). f name) same.1) guards.guards.file_is
+spared_run known y past reading old new name (Ok u) has guards (inr put) =
+    put_under known y old new name reading.bytes.items reading.first past put.0 (omega (arith, has.long)) guards.run guards.guards.file_is put.1
+spared_run known y past reading old new name (Err e) has guards (inr put) =
+    elim put.1 [
+      | inl same ↦ rw (ap (λ (f : Files). f name) same) guards.guards.file_is
+      | inr some ↦ put_under known y old new name (take some.0 reading.bytes.items) reading.first past put.0
+          (omega (arith, has.long, length-take some.0 reading.bytes.items)) guards.run guards.guards.file_is some.1
+    ]
 
 -- a sector that was asked for isn't left out any more
 not_left : (kind : Asked) → is_left_out (fate_of kind) ≡ false
@@ -111,53 +144,16 @@ set_left (x ∷ fates) zero (suc k) fate asked is = is
 set_left (x ∷ fates) (suc s) zero fate asked is = is
 set_left (x ∷ fates) (suc s) (suc k) fate asked is = set_left fates s k fate asked is
 
--- a sector was asked for, and no byte was written
-pub guards_asked : (known : Known) (y : List ℕ) (fates fates' : List Fate) (file : Option (List ℕ)) (s : ℕ) (kind : Asked) → fates' ≡ set fates s (fate_of kind)
-    → Guards known y fates file → Guards known y fates' file
-guards_asked known y fates fates' file s kind put guards = record {
-  file_is = guards.file_is;
-  erased = λ k low is.
-      guards.erased k low (set_left fates s k (fate_of kind) (not_left kind) (ap (λ (xs : List Fate). is_left_out (get_or xs k Kept)) (sym put) ∙ is));
-}
-
+-- within a list the default stands for nothing
 any_default : (fates : List Fate) (s : ℕ) (d e : Fate) → s < length fates → get_or fates s d ≡ get_or fates s e
 any_default [] s d e low = absurd (omega (arith, low))
 any_default (x ∷ fates) zero d e low = refl
 any_default (x ∷ fates) (suc s) d e low = any_default fates s d e (omega (arith, low))
 
-here_erased : (known : Known) (y : List ℕ) (fates : List Fate) (file : Option (List ℕ)) (s : ℕ) (fate : Fate) → s < known.sectors → s < length fates → fate ≡ get_or fates s fate → is_left_out fate ≡ true
-    → Guards known y fates file → is_erased known y s ≡ true
-here_erased known y fates file s fate below low here left guards =
-    guards.erased s below (ap is_left_out (any_default fates s Kept fate low ∙ sym here) ∙ left)
-
--- it was read, and its bytes were written
-pub guards_written : (known : Known) (y : List ℕ) (fates fates' : List Fate) (old new : Files) (name bytes block : List ℕ) (s offset : ℕ) (fate : Fate) (kind : Asked)
-    → Sized known → s < known.sectors → length fates ≡ known.sectors → fate ≡ get_or fates s fate → is_left_out fate ≡ true → fates' ≡ set fates s (fate_of kind)
-    → offset ≡ 2048 * s → bytes ≡ take (width known s) block → Writes old new name offset bytes
-    → Guards known y fates (old name) → Guards known y fates' (new name)
-guards_written known y fates fates' old new name bytes block s offset fate kind sized below all here left put at own written guards =
-    let bad = here_erased known y fates (old name) s fate below (omega (arith, all, below)) here left guards in
-    let few : length bytes ≤ width known s = omega (arith, ap length own, length-take (width known s) block) in
-    record {
-      file_is = put_under known y old new name bytes s sized below bad few guards.file_is (subst (λ n. Writes old new name n bytes) at written);
-      erased = (guards_asked known y fates fates' (old name) s kind put guards).erased;
-    }
-
--- the same where the write failed
-pub guards_failed : {E : Type 0} (known : Known) (y : List ℕ) (fates fates' : List Fate) (old new : Files) (name bytes block : List ℕ) (s offset : ℕ) (fate : Fate) (kind : Asked) (e : E)
-    → Sized known → s < known.sectors → length fates ≡ known.sectors → fate ≡ get_or fates s fate → is_left_out fate ≡ true → fates' ≡ set fates s (fate_of kind)
-    → offset ≡ 2048 * s → bytes ≡ take (width known s) block → WritesAt old new name offset bytes (Err e)
-    → Guards known y fates (old name) → Guards known y fates' (new name)
-guards_failed known y fates fates' old new name bytes block s offset fate kind e sized below all here left put at own written guards =
-    let bad = here_erased known y fates (old name) s fate below (omega (arith, all, below)) here left guards in
-    let asked = guards_asked known y fates fates' (old name) s kind put guards in
-    elim written [
-      | inl same ↦ record { file_is = rw same guards.file_is; erased = asked.erased }
-      | inr some ↦ record {
-        file_is =
-            put_under known y old new name (take some.0 bytes) s sized below bad
-            (omega (arith, ap length own, length-take (width known s) block, length-take some.0 bytes)) guards.file_is
-            (subst (λ n. Writes old new name n (take some.0 bytes)) at some.1);
-        erased = asked.erased;
-      }
-    ]
+-- the sector that was asked for wasn't good
+pub takes_bad : (known : Known) (y : List ℕ) (fates fates' : List Fate) (s : ℕ) (fate : Fate) (kind : Asked) (read : Bool) → s < known.sectors → length fates ≡ known.sectors
+    → fate ≡ get_or fates s fate → is_left_out fate ≡ true → fates' ≡ set fates s (fate_of kind) → AsksBad known y fates → TakesBad known y s fates' read
+takes_bad known y fates fates' s fate kind read below all here left put bad = record {
+  later = λ k low is. bad k low (set_left fates s k (fate_of kind) (not_left kind) (ap (λ (xs : List Fate). is_left_out (get_or xs k Kept)) (sym put) ∙ is));
+  here = λ e. bad s below (ap is_left_out (any_default fates s Kept fate (omega (arith, all, below)) ∙ sym here) ∙ left);
+}

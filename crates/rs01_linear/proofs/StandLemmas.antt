@@ -1,6 +1,6 @@
 -- How a reading stands once one sector more was passed.
-use Rattle.std.proofs.Common.{◌≡◌, ℕ, zero, suc, ◌+◌, ◌-◌, ◌*◌, ◌<◌, ◌≤◌, ◌∙◌, ap, arith, sym, refl, subst, Bool, true, false, cond, List, [], ◌∷◌, ◌++◌, length, take, drop, get_or, append_assoc, add-one}
-use Rattle.std.specs.Prelude.{Option, Some, None, Err, is_some}
+use Rattle.std.proofs.Common.{◌≡◌, ℕ, zero, suc, ◌+◌, ◌-◌, ◌<◌, ◌≤◌, ◌∙◌, ap, arith, sym, refl, subst, Bool, true, false, cond, List, [], ◌∷◌, ◌++◌, length, take, drop, get_or, append_assoc, add-one}
+use Rattle.std.specs.Prelude.{Option, Some, None, is_some}
 use Rattle.std.specs.Option.{unwrap_or}
 use Rattle.std.proofs.Math.ListN.{set}
 use Rattle.std.proofs.lemmas.Bool.{lt-ltb, le-ltb}
@@ -8,39 +8,35 @@ use Rattle.std.proofs.lemmas.List.{get_or-append_right, length-take-le}
 use Rattle.std.proofs.lemmas.List.FromFn.{get_or-map-range_with_len, length-map-range_with_len}
 use Rattle.rs01_lists.specs.Bytes.{part}
 use Rattle.rs01_sums.specs.Marker.{marker}
-use Rattle.rs01_outside.specs.Files.{Files, Writes, WritesAt}
 use Rattle.rs01_outside.specs.DriveView.{DriveView}
 use Rattle.rs01_rack.specs.Rack.{RackState, views_of}
 use Rattle.rs01_ecchead.specs.Erased.{Known, block_in, is_erased}
 use Rattle.rs01_layers.specs.declared.extent.Extent.{Extent}
 use Rattle.rs01_linear.specs.Asking.{Asking, ComesTo, ask_drives, kind_of, known_with}
 use Rattle.rs01_linear.specs.Course.{Course, Manner, asked_for, asked_or_left, fate_of, pass, passed, read_to}
-use Rattle.rs01_linear.specs.Left.{first_fate, first_fates, image_left, marked, marked_sector, mixed}
+use Rattle.rs01_linear.specs.Left.{first_fate, first_fates, image_left, marked, marked_sector}
 use Rattle.rs01_linear.specs.Marking.{is_left_out, place}
-use Rattle.rs01_linear.specs.Standing.{Halts, Stands}
+use Rattle.rs01_linear.specs.Standing.{Follows, Taken}
 use Rattle.rs01_linear.specs.declared.asking.Asked.{Asked}
 use Rattle.rs01_linear.specs.declared.asking.Asked.TheVariants as asked
 use Rattle.rs01_linear.specs.declared.fate.Fate.{Fate}
 use Rattle.rs01_linear.specs.declared.fate.Fate.TheVariants.{Kept, LeftOut}
 use Rattle.rs01_linear.specs.declared.reading.Reading.{Reading}
-use Rattle.rs01_linear.proofs.CourseLemmas.{left_long, left_part, length-fates, to_next}
-use Rattle.rs01_linear.proofs.LaidLemmas.{Sized, place_more, place_of, place_within, width, width_le}
+use Rattle.rs01_linear.proofs.CourseLemmas.{left_part, length-fates, to_next}
+use Rattle.rs01_linear.proofs.LaidLemmas.{Sized, width, width_le}
 use Rattle.rs01_linear.proofs.MarkLemmas.{left_out_is, marked_fills, marked_one}
-use Rattle.rs01_linear.proofs.MixedLemmas.{extend, extend_failed, same_mixed}
 
 -- by the course that the next sector leads to
-pub stands_next : (known : Known) (manner : Manner) (y : List ℕ) (views : List DriveView) (s : ℕ) (rack : RackState) (reading : Reading) (file : Option (List ℕ)) (next : Course)
+pub follows_next : (known : Known) (manner : Manner) (y : List ℕ) (views : List DriveView) (s : ℕ) (rack : RackState) (reading : Reading) (next : Course)
     → pass known manner y s (read_to known manner y views s) ≡ next
     → views_of rack ≡ next.views → reading.next ≡ next.next → reading.fates.items ≡ next.fates ++ drop (s + 1) (first_fates known y)
-    → file ≡ Some (mixed (place known (s + 1)) (image_left known manner y views) (marked known y))
-    → Stands known manner y views (s + 1) rack reading file
-stands_next known manner y views s rack reading file next is one two three four =
+    → Follows known manner y views (s + 1) rack reading
+follows_next known manner y views s rack reading next is one two three =
     let e : read_to known manner y views (s + 1) ≡ next = ap (read_to known manner y views) (add-one s) ∙ to_next known manner y views s ∙ is in
     record {
       views_are = one ∙ sym (ap (λ (c : Course). c.views) e);
       next_is = two ∙ sym (ap (λ (c : Course). c.next) e);
       fates_are = three ∙ sym (ap (λ (c : Course). c.fates ++ drop (s + 1) (first_fates known y)) e);
-      file_is = four;
     }
 
 -- a list from a place on
@@ -76,16 +72,13 @@ fates_put known y s fate before fates new below long are put =
     ∙ sym (append_assoc before (fate ∷ []) (drop (s + 1) (first_fates known y)))
 
 -- the bytes of a sector that stays marked, or is kept
-file_stays : (known : Known) (manner : Manner) (y : List ℕ) (views : List DriveView) (s : ℕ) (block : List ℕ) (next : Course) (file : Option (List ℕ)) → Sized known → s < known.sectors
+piece_stays : (known : Known) (manner : Manner) (y : List ℕ) (views : List DriveView) (s : ℕ) (block : List ℕ) (next : Course) → Sized known → s < known.sectors
     → pass known manner y s (read_to known manner y views s) ≡ next → next.image ≡ (read_to known manner y views s).image ++ take (width known s) block
     → take (width known s) block ≡ marked_sector known y s → length (marked_sector known y s) ≡ width known s
-    → file ≡ Some (mixed (place known s) (image_left known manner y views) (marked known y))
-    → file ≡ Some (mixed (place known (s + 1)) (image_left known manner y views) (marked known y))
-file_stays known manner y views s block next file sized below is image same wide held =
-    let left = left_part known manner y views s (take (width known s) block) sized below (ap (λ (c : Course). c.image) is ∙ image) (ap length same ∙ wide) in
-    held
-    ∙ ap Some (same_mixed (image_left known manner y views) (marked known y) (place known s) (width known s) (left ∙ same ∙ sym (marked_one known y s sized below))
-    ∙ ap (λ k. mixed k (image_left known manner y views) (marked known y)) (sym (place_more known s sized below)))
+    → part (image_left known manner y views) (place known s) (width known s) ≡ part (marked known y) (place known s) (width known s)
+piece_stays known manner y views s block next sized below is image same wide =
+    left_part known manner y views s (take (width known s) block) sized below (ap (λ (c : Course). c.image) is ∙ image) (ap length same ∙ wide)
+    ∙ same ∙ sym (marked_one known y s sized below)
 
 -- whether the next sector is erased, by its fate
 pub erased_here : (known : Known) (y : List ℕ) (s : ℕ) (fate : Fate) (b : Bool) (before fates : List Fate) → s < known.sectors → length before ≡ s
@@ -118,32 +111,38 @@ marked_wide : (known : Known) (y : List ℕ) (s : ℕ) → Sized known → s < k
 marked_wide known y s sized below = marked_fills known y sized s below
 
 -- a good sector
-pub stands_kept : (known : Known) (manner : Manner) (y : List ℕ) (views : List DriveView) (s : ℕ) (rack : RackState) (reading : Reading) (file : Option (List ℕ)) (fate : Fate)
+pub taken_kept : (known : Known) (manner : Manner) (y : List ℕ) (views : List DriveView) (s : ℕ) (rack : RackState) (reading : Reading) (fate : Fate) (block : List ℕ)
     → Sized known → s < known.sectors → fate ≡ get_or reading.fates.items s fate → is_left_out fate ≡ false
-    → Stands known manner y views s rack reading file → Stands known manner y views (s + 1) rack reading file
-stands_kept known manner y views s rack reading file fate sized below here kept st =
+    → Follows known manner y views s rack reading → Taken known manner y views s rack reading block false
+taken_kept known manner y views s rack reading fate block sized below here kept st =
     let course = read_to known manner y views s in
     let good = erased_here known y s fate false course.fates reading.fates.items below (length-fates known manner y views s sized) st.fates_are here kept in
     let is = pass_kept known manner y s course good in
     let same : take (width known s) (block_in known y s) ≡ marked_sector known y s =
     ap (λ b. take (width known s) (cond b (marker s) (block_in known y s))) (sym good) in
-    stands_next known manner y views s rack reading file (passed known s Kept (block_in known y s) course) is st.views_are st.next_is
-    (fates_stay known y s Kept course.fates reading.fates.items below (ap (λ b. cond b LeftOut Kept) good) st.fates_are)
-    (file_stays known manner y views s (block_in known y s) (passed known s Kept (block_in known y s) course) file sized below is refl same (marked_wide known y s sized below) st.file_is)
+    record {
+      follows =
+          follows_next known manner y views s rack reading (passed known s Kept (block_in known y s) course) is st.views_are st.next_is
+          (fates_stay known y s Kept course.fates reading.fates.items below (ap (λ b. cond b LeftOut Kept) good) st.fates_are);
+      gives = piece_stays known manner y views s (block_in known y s) (passed known s Kept (block_in known y s) course) sized below is refl same (marked_wide known y s sized below);
+    }
 
 -- one that is left out
-pub stands_left : (known : Known) (manner : Manner) (y : List ℕ) (views : List DriveView) (s : ℕ) (rack : RackState) (reading : Reading) (file : Option (List ℕ)) (fate : Fate)
+pub taken_left : (known : Known) (manner : Manner) (y : List ℕ) (views : List DriveView) (s : ℕ) (rack : RackState) (reading : Reading) (fate : Fate) (block : List ℕ)
     → Sized known → s < known.sectors → fate ≡ get_or reading.fates.items s fate → is_left_out fate ≡ true → s < reading.next
-    → Stands known manner y views s rack reading file → Stands known manner y views (s + 1) rack reading file
-stands_left known manner y views s rack reading file fate sized below here left early st =
+    → Follows known manner y views s rack reading → Taken known manner y views s rack reading block false
+taken_left known manner y views s rack reading fate block sized below here left early st =
     let course = read_to known manner y views s in
     let bad = erased_here known y s fate true course.fates reading.fates.items below (length-fates known manner y views s sized) st.fates_are here left in
     let is = pass_left known manner y s course bad (omega (arith, early, st.next_is)) in
     let same : take (width known s) (marker s) ≡ marked_sector known y s =
     ap (λ b. take (width known s) (cond b (marker s) (block_in known y s))) (sym bad) in
-    stands_next known manner y views s rack reading file (passed known s LeftOut (marker s) course) is st.views_are st.next_is
-    (fates_stay known y s LeftOut course.fates reading.fates.items below (ap (λ b. cond b LeftOut Kept) bad) st.fates_are)
-    (file_stays known manner y views s (marker s) (passed known s LeftOut (marker s) course) file sized below is refl same (marked_wide known y s sized below) st.file_is)
+    record {
+      follows =
+          follows_next known manner y views s rack reading (passed known s LeftOut (marker s) course) is st.views_are st.next_is
+          (fates_stay known y s LeftOut course.fates reading.fates.items below (ap (λ b. cond b LeftOut Kept) bad) st.fates_are);
+      gives = piece_stays known manner y views s (marker s) (passed known s LeftOut (marker s) course) sized below is refl same (marked_wide known y s sized below);
+    }
 
 not_read : (read : Option (List ℕ)) (answered : Bool) (kind : Asked) → kind ≡ cond (is_some read) asked.Read (cond answered asked.Altered asked.Unreadable) → (kind ≡ asked.Read → ⊥) → read ≡ None
 not_read None answered kind is ne = refl
@@ -154,13 +153,13 @@ asked_so : (known : Known) (s tries : ℕ) (course : Course) (rack : RackState) 
 asked_so known s tries course rack same = ap (ask_drives known s tries) same
 
 -- one that was asked for in vain
-pub stands_vain : (known : Known) (manner : Manner) (y : List ℕ) (views : List DriveView) (s : ℕ) (rack rack' : RackState) (reading reading' : Reading) (file : Option (List ℕ))
+pub taken_vain : (known : Known) (manner : Manner) (y : List ℕ) (views : List DriveView) (s : ℕ) (rack rack' : RackState) (reading reading' : Reading)
     (fate : Fate) (kind : Asked) (block : List ℕ)
     → Sized known → s < known.sectors → fate ≡ get_or reading.fates.items s fate → is_left_out fate ≡ true → reading.next ≤ s
     → ComesTo (ask_drives known s manner.tries (views_of rack)) block kind (views_of rack') → (kind ≡ asked.Read → ⊥)
     → reading'.fates.items ≡ set reading.fates.items s (fate_of kind) → reading'.next ≡ s + manner.jump
-    → Stands known manner y views s rack reading file → Stands known manner y views (s + 1) rack' reading' file
-stands_vain known manner y views s rack rack' reading reading' file fate kind block sized below here left late comes vain put next st =
+    → Follows known manner y views s rack reading → Taken known manner y views s rack' reading' block false
+taken_vain known manner y views s rack rack' reading reading' fate kind block sized below here left late comes vain put next st =
     let course = read_to known manner y views s in
     let asking = ask_drives known s manner.tries course.views in
     let so = asked_so known s manner.tries course rack st.views_are in
@@ -172,12 +171,15 @@ stands_vain known manner y views s rack rack' reading reading' file fate kind bl
     let same : take (width known s) (unwrap_or asking.read (marker s)) ≡ marked_sector known y s =
     ap (λ (o : Option (List ℕ)). take (width known s) (unwrap_or o (marker s))) none
     ∙ ap (λ b. take (width known s) (cond b (marker s) (block_in known y s))) (sym bad) in
-    stands_next known manner y views s rack' reading' file (asked_for known manner s asking course) is
-    (comes.views_are ∙ ap (λ (a : Asking). a.views) so)
-    (next ∙ sym (ap (λ (o : Option (List ℕ)). cond (is_some o) course.next (s + manner.jump)) none))
-    (fates_put known y s (fate_of (kind_of asking)) course.fates reading.fates.items reading'.fates.items below long st.fates_are
-    (put ∙ ap (λ k. set reading.fates.items s (fate_of k)) answer))
-    (file_stays known manner y views s (unwrap_or asking.read (marker s)) (asked_for known manner s asking course) file sized below is refl same (marked_wide known y s sized below) st.file_is)
+    record {
+      follows =
+          follows_next known manner y views s rack' reading' (asked_for known manner s asking course) is
+          (comes.views_are ∙ ap (λ (a : Asking). a.views) so)
+          (next ∙ sym (ap (λ (o : Option (List ℕ)). cond (is_some o) course.next (s + manner.jump)) none))
+          (fates_put known y s (fate_of (kind_of asking)) course.fates reading.fates.items reading'.fates.items below long st.fates_are
+          (put ∙ ap (λ k. set reading.fates.items s (fate_of k)) answer));
+      gives = piece_stays known manner y views s (unwrap_or asking.read (marker s)) (asked_for known manner s asking course) sized below is refl same (marked_wide known y s sized below);
+    }
 
 -- what is left has the block that was read
 read_part : (known : Known) (manner : Manner) (y : List ℕ) (views : List DriveView) (s : ℕ) (asking : Asking) (block : List ℕ) → Sized known → s < known.sectors
@@ -189,20 +191,14 @@ read_part known manner y views s asking block sized below is some whole =
     (ap (λ (c : Course). c.image) is ∙ ap (λ (o : Option (List ℕ)). (read_to known manner y views s).image ++ take (width known s) (unwrap_or o (marker s))) some)
     (length-take-le (width known s) block (omega (arith, whole, width_le known s sized))))
 
-left_within : (known : Known) (manner : Manner) (y : List ℕ) (views : List DriveView) (s : ℕ) → Sized known → s < known.sectors
-    → place known s + width known s ≤ length (image_left known manner y views)
-left_within known manner y views s sized below =
-    omega (arith, left_long known manner y views sized, place_more known s sized below, place_within known (s + 1))
-
--- one that was read, and whose bytes were put in place
-pub stands_read : (known : Known) (manner : Manner) (y : List ℕ) (views : List DriveView) (s : ℕ) (rack rack' : RackState) (reading reading' : Reading) (old new : Files) (name : List ℕ)
-    (fate : Fate) (kind : Asked) (block bytes : List ℕ) (offset : ℕ)
+-- one that was read
+pub taken_read : (known : Known) (manner : Manner) (y : List ℕ) (views : List DriveView) (s : ℕ) (rack rack' : RackState) (reading reading' : Reading)
+    (fate : Fate) (kind : Asked) (block : List ℕ)
     → Sized known → s < known.sectors → fate ≡ get_or reading.fates.items s fate → is_left_out fate ≡ true → reading.next ≤ s
     → ComesTo (ask_drives known s manner.tries (views_of rack)) block kind (views_of rack') → kind ≡ asked.Read → length block ≡ 2048
     → reading'.fates.items ≡ set reading.fates.items s (fate_of kind) → reading'.next ≡ reading.next
-    → offset ≡ 2048 * s → bytes ≡ take (width known s) block → Writes old new name offset bytes
-    → Stands known manner y views s rack reading (old name) → Stands known manner y views (s + 1) rack' reading' (new name)
-stands_read known manner y views s rack rack' reading reading' old new name fate kind block bytes offset sized below here left late comes read whole put next at own written st =
+    → Follows known manner y views s rack reading → Taken known manner y views s rack' reading' block true
+taken_read known manner y views s rack rack' reading reading' fate kind block sized below here left late comes read whole put next st =
     let course = read_to known manner y views s in
     let asking = ask_drives known s manner.tries course.views in
     let so = asked_so known s manner.tries course rack st.views_are in
@@ -211,36 +207,14 @@ stands_read known manner y views s rack rack' reading reading' old new name fate
     let is = pass_asked known manner y s course bad (omega (arith, late, st.next_is)) in
     let answer : kind ≡ kind_of asking = comes.answer ∙ ap kind_of so in
     let some : asking.read ≡ Some block = sym (ap (λ (a : Asking). a.read) so) ∙ comes.block_is read in
-    stands_next known manner y views s rack' reading' (new name) (asked_for known manner s asking course) is
-    (comes.views_are ∙ ap (λ (a : Asking). a.views) so)
-    (next ∙ st.next_is ∙ sym (ap (λ (o : Option (List ℕ)). cond (is_some o) course.next (s + manner.jump)) some))
-    (fates_put known y s (fate_of (kind_of asking)) course.fates reading.fates.items reading'.fates.items below long st.fates_are
-    (put ∙ ap (λ k. set reading.fates.items s (fate_of k)) answer))
-    (extend old new name (image_left known manner y views) (marked known y) bytes (place known s) (width known s) offset (left_within known manner y views s sized below)
-    (at ∙ sym (place_of known s sized below)) (own ∙ read_part known manner y views s asking block sized below is some whole) st.file_is written
-    ∙ ap (λ n. Some (mixed n (image_left known manner y views) (marked known y))) (sym (place_more known s sized below)))
-
--- the same where the write failed
-pub halts_read : {E : Type 0} (known : Known) (manner : Manner) (y : List ℕ) (views : List DriveView) (s : ℕ) (rack rack' : RackState) (reading : Reading) (old new : Files) (name : List ℕ)
-    (fate : Fate) (kind : Asked) (block bytes : List ℕ) (offset : ℕ) (e : E)
-    → Sized known → s < known.sectors → fate ≡ get_or reading.fates.items s fate → is_left_out fate ≡ true → reading.next ≤ s
-    → ComesTo (ask_drives known s manner.tries (views_of rack)) block kind (views_of rack') → kind ≡ asked.Read → length block ≡ 2048
-    → offset ≡ 2048 * s → bytes ≡ take (width known s) block → WritesAt old new name offset bytes (Err e)
-    → Stands known manner y views s rack reading (old name) → Halts known manner y views s rack' (new name)
-halts_read known manner y views s rack rack' reading old new name fate kind block bytes offset e sized below here left late comes read whole at own written st =
-    let course = read_to known manner y views s in
-    let asking = ask_drives known s manner.tries course.views in
-    let so = asked_so known s manner.tries course rack st.views_are in
-    let long = length-fates known manner y views s sized in
-    let bad = erased_here known y s fate true course.fates reading.fates.items below long st.fates_are here left in
-    let is = pass_asked known manner y s course bad (omega (arith, late, st.next_is)) in
-    let some : asking.read ≡ Some block = sym (ap (λ (a : Asking). a.read) so) ∙ comes.block_is read in
     record {
-      views_are =
-          comes.views_are ∙ ap (λ (a : Asking). a.views) so ∙ sym (ap (λ (c : Course). c.views) (ap (read_to known manner y views) (add-one s) ∙ to_next known manner y views s ∙ is));
-      file_is =
-          extend_failed old new name (image_left known manner y views) (marked known y) bytes (place known s) (width known s) offset e (left_within known manner y views s sized below)
-          (at ∙ sym (place_of known s sized below)) (own ∙ read_part known manner y views s asking block sized below is some whole) st.file_is written;
+      follows =
+          follows_next known manner y views s rack' reading' (asked_for known manner s asking course) is
+          (comes.views_are ∙ ap (λ (a : Asking). a.views) so)
+          (next ∙ st.next_is ∙ sym (ap (λ (o : Option (List ℕ)). cond (is_some o) course.next (s + manner.jump)) some))
+          (fates_put known y s (fate_of (kind_of asking)) course.fates reading.fates.items reading'.fates.items below long st.fates_are
+          (put ∙ ap (λ k. set reading.fates.items s (fate_of k)) answer));
+      gives = sym (read_part known manner y views s asking block sized below is some whole);
     }
 
 -- the same asking, by checksums that are the same

@@ -13,7 +13,7 @@ ghost use Rattle.rs01_linear.specs.Refusal.{IsOfWork, LeavesAll, TellsFaults, Wo
 use crate::medium::Medium;
 use crate::opening::open_medium;
 use crate::prepared::{Prepared, prepare};
-use crate::reading::{Reading, read_sectors};
+use crate::reading::{RUN_BYTES, Reading, read_sectors};
 use crate::refusal::ReadRefusal;
 use crate::telling::report;
 use rs01_outside::{Desk, Drive};
@@ -50,10 +50,13 @@ fn read_prepared<D: Desk>(
     ensures told { OnRack ⟦<dyn Drive as Drive>⟧ (TellsPrepared medium.now jump tries name.now
         prepared (D.state desk.old) (D.state desk.new) result) rack.old rack.new }
 {
+    let bytes = Vec::with_capacity(alloc, RUN_BYTES)?;
     let asks = rack.asks();
     let mut reading = Reading {
         next: 0,
         fates: prepared.fates,
+        first: 0,
+        bytes,
     };
     read_sectors(rack, desk, name, medium, jump, tries, &mut reading)?;
     let asked = asked_since(asks, rack);
@@ -65,8 +68,9 @@ fn read_prepared<D: Desk>(
 ///
 /// The sectors are taken in rising order. One that the image file has good isn't asked for. After one that was asked for
 /// and not read the next `jump - 1` are left out. Each drive is asked `tries` times at most. The image file is made where
-/// it isn't there, and before the first ask each sector that isn't good gets its marker, in long runs; each sector that is
-/// read goes out by one write of its own. Bytes past the image stay, and so do all other files.
+/// it isn't there, and before the first ask each sector that isn't good gets its marker, in long runs. Neighbouring
+/// sectors that are read go out by one write, of 64 sectors at most. Bytes past the image stay, and so do all other
+/// files.
 ///
 /// The refusals of the file and of the drives come first, in this order, and nothing has changed then. After a fault or
 /// want of memory the drives were asked for the first sectors alone, and the image file is as it was, or its first bytes

@@ -197,19 +197,23 @@ fn media_that_are_refused(rt: HostRuntime) -> Result<(), Fail> {
 #[test]
 fn each_call_of_the_desk_fails_once(rt: HostRuntime) -> Result<(), Fail> {
     let alloc = rt.alloc();
-    for (call, wanted, asks) in [
-        (0, Some(ReadRefusal::ReadFault), 0),
-        (1, Some(ReadRefusal::WriteFault), 0),
-        (2, Some(ReadRefusal::ReadFault), 0),
-        (3, Some(ReadRefusal::WriteFault), 0),
-        (4, Some(ReadRefusal::WriteFault), 1),
-        (13, Some(ReadRefusal::WriteFault), 10),
-        (14, None, 10),
+    for (sectors, call, wanted, asks) in [
+        (10, 0, Some(ReadRefusal::ReadFault), 0),
+        (10, 1, Some(ReadRefusal::WriteFault), 0),
+        (10, 2, Some(ReadRefusal::ReadFault), 0),
+        (10, 3, Some(ReadRefusal::WriteFault), 0),
+        (10, 4, Some(ReadRefusal::WriteFault), 10),
+        (10, 5, None, 10),
+        // Three reads, three runs of markers, and then three of sectors.
+        (130, 7, Some(ReadRefusal::WriteFault), 0),
+        (130, 8, Some(ReadRefusal::WriteFault), 64),
+        (130, 10, Some(ReadRefusal::WriteFault), 130),
+        (130, 11, None, 130),
     ] {
         let mut desk = MemoryDesk::new(alloc);
         desk.fail_call(call);
         let mut drives: Vec<Box<dyn Drive>> = Vec::new(alloc);
-        drives.push(Box::new(alloc, ScriptDrive::new(alloc, 10)?)?)?;
+        drives.push(Box::new(alloc, ScriptDrive::new(alloc, sectors)?)?)?;
         let mut rack = Rack::new(alloc, drives)?;
         let given = read_linear(alloc, &mut rack, &mut desk, "disc.iso", None, 1, 1);
         assert_eq!(rt; given.err(), wanted);

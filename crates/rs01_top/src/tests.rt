@@ -769,7 +769,7 @@ fn media_that_are_not_read(rt: HostRuntime) -> Result<(), Fail> {
     )?;
     assert_eq!(rt; ran, (4, true));
     assert_eq!(rt; size_of(&desk, "new.iso"), Some(20_480));
-    assert_eq!(rt; (rack.asks(), desk.write_faults()), (1, 1));
+    assert_eq!(rt; (rack.asks(), desk.write_faults()), (10, 1));
     Ok(())
 }
 

@@ -1,106 +1,38 @@
-use Rattle.std.proofs.Common.{◌≡◌, ◌∙◌, ◌*◌, ◌≤◌, ap, arith, refl, sym, take}
-use Rattle.std.proofs.Math.ListN.{set}
-use Rattle.rs01_linear.specs.Medium.{known_of}
-use Rattle.rs01_linear.specs.declared.asking.Asked.TheVariants as asked
-use Rattle.rs01_linear.proofs.MarkLemmas.{sized_by}
-use Rattle.rs01_linear.proofs.RoseLemmas.{keeps_asked, keeps_same}
-use Rattle.rs01_linear.proofs.SpareLemmas.{guards_asked, guards_failed, guards_written}
-use Rattle.rs01_linear.proofs.StandLemmas.{comes_with, halts_read, stands_kept, stands_left, stands_read, stands_vain}
+use Rattle.std.proofs.Common.{refl}
+use Rattle.std.proofs.lemmas.Result.{err_from_is_err_and}
+use Rattle.rs01_linear.proofs.PassLemmas.{full_done, full_failed, gather_done, gathered, skip_done, skip_failed}
 use Rattle.rs01_linear.proofs.reading.pass_sector.Goals as goal
 
-pub returns-then-not-is_left_out-clause-told : goal.returns-then-not-is_left_out-clause-told
-returns-then-not-is_left_out-clause-told g c = record {
-  stands = λ y views t tell st.
-      stands_kept (known_of c.args.medium.now) _ y views c.args.sector _ _ _ c.index.result.now (sized_by c.args.medium.now.extent _) c.requires.sector c.index.ensures
-      (sym c.is_left_out.ensures ∙ c.if-not-is_left_out.true) st;
-  stays = λ y t guards. guards;
-}
+pub returns-in_err-flush-clause-told : goal.returns-in_err-flush-clause-told
+returns-in_err-flush-clause-told g c =
+    let p = err_from_is_err_and c.from_residual.result c.from_residual.ensures.1 in
+    skip_failed c.args.medium.now c.args.sector c.args.jump c.args.tries c.take_sector.new.block c.args.name.now _ _ c.args.reading.now c.take_sector.new.reading _ c.take_sector.result
+    c.from_residual.result c.in_err-flush.field-0.0 p.0 _ _ c.requires.sector c.take_sector.ensures.told c.requires.run c.take_sector.ensures.kept.all c.in_err-flush.ensures.put p.1
 
-pub returns-then-sector-reading-clause-told : goal.returns-then-sector-reading-clause-told
-returns-then-sector-reading-clause-told g c = record {
-  stands = λ y views t tell st.
-      stands_left (known_of c.args.medium.now) _ y views c.args.sector _ _ _ c.index.result.now (sized_by c.args.medium.now.extent _) c.requires.sector c.index.ensures
-      (sym c.is_left_out.ensures ∙ c.if-not-is_left_out.false) (omega (arith, c.if-sector-reading.true)) st;
-  stays = λ y t guards. guards;
-}
+pub returns-then-not-take_sector-clause-told : goal.returns-then-not-take_sector-clause-told
+returns-then-not-take_sector-clause-told g c =
+    skip_done c.args.medium.now c.args.sector c.args.jump c.args.tries c.take_sector.new.block c.args.name.now _ _ c.args.reading.now c.take_sector.new.reading c.flush.new.reading _ c.take_sector.result
+    _ _ _ c.requires.sector c.take_sector.ensures.told c.if-not-take_sector.true c.requires.run c.take_sector.ensures.kept.all c.in_ok-flush.ensures.put c.in_ok-flush.ensures.fates
+    c.in_ok-flush.ensures.begins refl refl refl refl
 
-pub returns-in-Unreadable-clause-told : goal.returns-in-Unreadable-clause-told
-returns-in-Unreadable-clause-told g c = record {
-  stands = λ y views t tell st.
-      let comes = comes_with c.args.medium.now.extent _ _ c.args.sector c.args.tries _ c.ask_sector-asked.new.into c.ask_sector-asked.result _ c.sums.ensures.sums (c.ask_sector-asked.ensures.asked.told tell) in
-      let late : c.args.reading.now.next ≤ c.args.sector = omega (arith, c.if-sector-reading.false) in
-      stands_vain (known_of c.args.medium.now) _ y views c.args.sector _ _ _ _ _ c.index.result.now c.ask_sector-asked.result c.ask_sector-asked.new.into
-      (sized_by c.args.medium.now.extent _) c.requires.sector c.index.ensures (sym c.is_left_out.ensures ∙ c.if-not-is_left_out.false) late comes
-      (λ e. let f : asked.Unreadable ≡ asked.Read = sym c.in-Unreadable.is ∙ e in cc)
-      (ap (set c.args.reading.now.fates.items c.args.sector) c.fate_of.ensures) refl st;
-  stays = λ y t guards. guards_asked (known_of c.args.medium.now) y _ _ _ c.args.sector c.ask_sector-asked.result (ap (set c.args.reading.now.fates.items c.args.sector) c.fate_of.ensures) guards;
-}
+pub returns-then-len-lt-RUN_BYTES-clause-told : goal.returns-then-len-lt-RUN_BYTES-clause-told
+returns-then-len-lt-RUN_BYTES-clause-told g c =
+    gather_done c.args.medium.now c.args.sector c.args.jump c.args.tries c.args.name.now _ c.args.reading.now _ _ _ _
+    (gathered c.args.medium.now c.args.sector c.args.jump c.args.tries c.take_sector.new.block _ c.args.reading.now c.take_sector.new.reading _ c.take_sector.result _ _
+    c.requires.sector c.take_sector.ensures.told c.if-not-take_sector.false c.requires.run c.take_sector.ensures.kept.all c.take_sector.array_long refl refl refl c.in_ok-gather.ensures)
 
-pub returns-in-Altered-clause-told : goal.returns-in-Altered-clause-told
-returns-in-Altered-clause-told g c = record {
-  stands = λ y views t tell st.
-      let comes = comes_with c.args.medium.now.extent _ _ c.args.sector c.args.tries _ c.ask_sector-asked.new.into c.ask_sector-asked.result _ c.sums.ensures.sums (c.ask_sector-asked.ensures.asked.told tell) in
-      let late : c.args.reading.now.next ≤ c.args.sector = omega (arith, c.if-sector-reading.false) in
-      stands_vain (known_of c.args.medium.now) _ y views c.args.sector _ _ _ _ _ c.index.result.now c.ask_sector-asked.result c.ask_sector-asked.new.into
-      (sized_by c.args.medium.now.extent _) c.requires.sector c.index.ensures (sym c.is_left_out.ensures ∙ c.if-not-is_left_out.false) late comes
-      (λ e. let f : asked.Altered ≡ asked.Read = sym c.in-Altered.is ∙ e in cc)
-      (ap (set c.args.reading.now.fates.items c.args.sector) c.fate_of.ensures) refl st;
-  stays = λ y t guards. guards_asked (known_of c.args.medium.now) y _ _ _ c.args.sector c.ask_sector-asked.result (ap (set c.args.reading.now.fates.items c.args.sector) c.fate_of.ensures) guards;
-}
+pub returns-in_err-flush-2-clause-told : goal.returns-in_err-flush-2-clause-told
+returns-in_err-flush-2-clause-told g c =
+    let p = err_from_is_err_and c.from_residual-in_err-flush-2.result c.from_residual-in_err-flush-2.ensures.1 in
+    full_failed c.args.medium.now c.args.sector c.args.jump c.args.tries c.args.name.now _ _ c.args.reading.now
+    (record { next = c.take_sector.new.reading.next; fates = c.take_sector.new.reading.fates; first = c.take_sector.new.reading.first; bytes = c.gather.new.bytes }) _ c.from_residual-in_err-flush-2.result c.in_err-flush-2.field-0.0 p.0 _ _ c.requires.sector
+    (gathered c.args.medium.now c.args.sector c.args.jump c.args.tries c.take_sector.new.block _ c.args.reading.now c.take_sector.new.reading _ c.take_sector.result _ _
+    c.requires.sector c.take_sector.ensures.told c.if-not-take_sector.false c.requires.run c.take_sector.ensures.kept.all c.take_sector.array_long refl refl refl c.in_ok-gather.ensures)
+    c.in_err-flush-2.ensures.put p.1
 
-pub returns-in-Ok-clause-told : goal.returns-in-Ok-clause-told
-returns-in-Ok-clause-told g c = record {
-  stands = λ y views t tell st.
-      let comes = comes_with c.args.medium.now.extent _ _ c.args.sector c.args.tries _ c.ask_sector-asked.new.into c.ask_sector-asked.result _ c.sums.ensures.sums (c.ask_sector-asked.ensures.asked.told tell) in
-      let late : c.args.reading.now.next ≤ c.args.sector = omega (arith, c.if-sector-reading.false) in
-      stands_read (known_of c.args.medium.now) _ y views c.args.sector _ _ _ _ _ _ c.args.name.now c.index.result.now c.ask_sector-asked.result c.ask_sector-asked.new.into _ _
-      (sized_by c.args.medium.now.extent _) c.requires.sector c.index.ensures (sym c.is_left_out.ensures ∙ c.if-not-is_left_out.false) late comes
-      c.in-Read.is c.ask_sector-asked.array_long
-      (ap (set c.args.reading.now.fates.items c.args.sector) c.fate_of.ensures) refl
-      (ap (λ n. 2048 * n) c.from.ensures) (ap (λ n. take n c.ask_sector-asked.new.into) c.length.ensures.value) (c.in-Ok.ensures.written t) st;
-  stays = λ y t guards.
-      guards_written (known_of c.args.medium.now) y _ _ _ _ c.args.name.now _ c.ask_sector-asked.new.into c.args.sector _ c.index.result.now c.ask_sector-asked.result
-      (sized_by c.args.medium.now.extent _) c.requires.sector c.requires.all c.index.ensures (sym c.is_left_out.ensures ∙ c.if-not-is_left_out.false) (ap (set c.args.reading.now.fates.items c.args.sector) c.fate_of.ensures)
-      (ap (λ n. 2048 * n) c.from.ensures) (ap (λ n. take n c.ask_sector-asked.new.into) c.length.ensures.value) (c.in-Ok.ensures.written t) guards;
-}
-
-pub returns-in-Err-clause-told : goal.returns-in-Err-clause-told
-returns-in-Err-clause-told g c = record {
-  stands = λ y views t tell st.
-      let comes = comes_with c.args.medium.now.extent _ _ c.args.sector c.args.tries _ c.ask_sector-asked.new.into c.ask_sector-asked.result _ c.sums.ensures.sums (c.ask_sector-asked.ensures.asked.told tell) in
-      let late : c.args.reading.now.next ≤ c.args.sector = omega (arith, c.if-sector-reading.false) in
-      halts_read (known_of c.args.medium.now) _ y views c.args.sector _ _ _ _ _ c.args.name.now c.index.result.now c.ask_sector-asked.result c.ask_sector-asked.new.into _ _ c.in-Err.field-0
-      (sized_by c.args.medium.now.extent _) c.requires.sector c.index.ensures (sym c.is_left_out.ensures ∙ c.if-not-is_left_out.false) late comes
-      c.in-Read.is c.ask_sector-asked.array_long
-      (ap (λ n. 2048 * n) c.from.ensures) (ap (λ n. take n c.ask_sector-asked.new.into) c.length.ensures.value) (c.in-Err.ensures.written t) st;
-  stays = λ y t guards.
-      guards_failed (known_of c.args.medium.now) y _ _ _ _ c.args.name.now _ c.ask_sector-asked.new.into c.args.sector _ c.index.result.now c.ask_sector-asked.result c.in-Err.field-0
-      (sized_by c.args.medium.now.extent _) c.requires.sector c.requires.all c.index.ensures (sym c.is_left_out.ensures ∙ c.if-not-is_left_out.false) (ap (set c.args.reading.now.fates.items c.args.sector) c.fate_of.ensures)
-      (ap (λ n. 2048 * n) c.from.ensures) (ap (λ n. take n c.ask_sector-asked.new.into) c.length.ensures.value) (c.in-Err.ensures.written t) guards;
-}
-
-pub returns-in-Unreadable-clause-kept : goal.returns-in-Unreadable-clause-kept
-returns-in-Unreadable-clause-kept g c =
-    keeps_asked c.args.reading.now _ _ _ c.args.sector c.ask_sector-asked.result c.ask_sector-asked.ensures.asked.lasts c.ask_sector-asked.ensures.cause
-    (ap (set c.args.reading.now.fates.items c.args.sector) c.fate_of.ensures)
-
-pub returns-in-Altered-clause-kept : goal.returns-in-Altered-clause-kept
-returns-in-Altered-clause-kept g c =
-    keeps_asked c.args.reading.now _ _ _ c.args.sector c.ask_sector-asked.result c.ask_sector-asked.ensures.asked.lasts c.ask_sector-asked.ensures.cause
-    (ap (set c.args.reading.now.fates.items c.args.sector) c.fate_of.ensures)
-
-pub returns-in-Ok-clause-kept : goal.returns-in-Ok-clause-kept
-returns-in-Ok-clause-kept g c =
-    keeps_asked c.args.reading.now _ _ _ c.args.sector c.ask_sector-asked.result c.ask_sector-asked.ensures.asked.lasts c.ask_sector-asked.ensures.cause
-    (ap (set c.args.reading.now.fates.items c.args.sector) c.fate_of.ensures)
-
-pub returns-in-Err-clause-kept : goal.returns-in-Err-clause-kept
-returns-in-Err-clause-kept g c =
-    keeps_asked c.args.reading.now _ _ _ c.args.sector c.ask_sector-asked.result c.ask_sector-asked.ensures.asked.lasts c.ask_sector-asked.ensures.cause
-    (ap (set c.args.reading.now.fates.items c.args.sector) c.fate_of.ensures)
-
-pub returns-then-not-is_left_out-clause-kept : goal.returns-then-not-is_left_out-clause-kept
-returns-then-not-is_left_out-clause-kept g c = keeps_same c.args.reading.now _ c.args.rack.now.counted
-
-pub returns-then-sector-reading-clause-kept : goal.returns-then-sector-reading-clause-kept
-returns-then-sector-reading-clause-kept g c = keeps_same c.args.reading.now _ c.args.rack.now.counted
+pub returns-clause-told : goal.returns-clause-told
+returns-clause-told g c =
+    full_done c.args.medium.now c.args.sector c.args.jump c.args.tries c.args.name.now _ _ c.args.reading.now _ c.flush-2.new.reading _ _ _ c.requires.sector
+    (gathered c.args.medium.now c.args.sector c.args.jump c.args.tries c.take_sector.new.block _ c.args.reading.now c.take_sector.new.reading _ c.take_sector.result _ _
+    c.requires.sector c.take_sector.ensures.told c.if-not-take_sector.false c.requires.run c.take_sector.ensures.kept.all c.take_sector.array_long refl refl refl c.in_ok-gather.ensures)
+    c.in_ok-flush-2.ensures.put c.in_ok-flush-2.ensures.fates c.in_ok-flush-2.ensures.begins
