@@ -78,7 +78,3 @@ read_to known manner y views (suc s) = pass known manner y s (read_to known mann
 -- all of them
 abbrev pub whole_reading : Known → Manner → List ℕ → List DriveView → Course
 whole_reading known manner y views = read_to known manner y views known.sectors
-
--- a scan asks for each sector once, with one try: as a reading that finds no image and leaves nothing out
-abbrev pub scan_to : Known → List DriveView → ℕ → Course
-scan_to known views n = read_to known (record { jump = 1; tries = 1 }) [] views n

@@ -71,11 +71,7 @@ fn take_sector(
     reading.fates[sector as usize] = fate_of(asked);
     match asked {
         Asked::Read => true,
-        Asked::Unreadable => {
-            reading.next = sector + jump;
-            false
-        }
-        Asked::Altered => {
+        Asked::Unreadable | Asked::Altered => {
             reading.next = sector + jump;
             false
         }

@@ -1,7 +1,6 @@
 -- The work that words ask for.
-use Rattle.std.specs.Prelude.{ℕ, List, Option, Result, Ok, Err, false, true}
+use Rattle.std.specs.Prelude.{ℕ, List, Result, Ok, Err, false, true}
 use Rattle.std.specs.Option.{option_map}
-use Rattle.rs01_report.specs.declared.faults.Fault.{Fault}
 use Rattle.rs01_report.specs.declared.faults.Fault.TheVariants as fault
 use Rattle.rs01_words.specs.declared.command.Command.{Command}
 use Rattle.rs01_words.specs.declared.command.Command.TheVariants as command
@@ -11,7 +10,6 @@ use Rattle.rs01_words.specs.Command.{words_of}
 use Rattle.rs01_top.specs.Create.{create_work}
 use Rattle.rs01_top.specs.Faults.{word_fault}
 use Rattle.rs01_top.specs.Fix.{fix_work}
-use Rattle.rs01_top.specs.Outside.{Outside}
 use Rattle.rs01_top.specs.Read.{read_work}
 use Rattle.rs01_top.specs.Scan.{scan_work}
 use Rattle.rs01_top.specs.Verify.{verify_work}
@@ -35,7 +33,3 @@ work_by words (Err refused) = no_work (word_fault refused)
 
 abbrev pub work_for : List (List ℕ) → Work
 work_for words = work_by words (words_of words)
-
--- the first fault of words, or of what is found by them
-abbrev pub first_refusal : List (List ℕ) → Outside → Option Fault
-first_refusal words found = (work_for words).refusal found

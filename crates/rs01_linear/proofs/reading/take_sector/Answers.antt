@@ -1,4 +1,4 @@
-use Rattle.std.proofs.Common.{◌≡◌, ◌∙◌, ◌≤◌, ap, arith, refl, sym, true, false}
+use Rattle.std.proofs.Common.{◌≡◌, ◌∙◌, ◌≤◌, ap, arith, refl, sym, true, false, ⊎_elim}
 use Rattle.std.proofs.Math.ListN.{set}
 use Rattle.rs01_linear.specs.Medium.{known_of}
 use Rattle.rs01_linear.specs.declared.asking.Asked.TheVariants as asked
@@ -58,7 +58,7 @@ returns-in-Unreadable-clause-told g c = record {
       let late : c.args.reading.now.next ≤ c.args.sector = omega (arith, c.if-sector-reading.false) in
       taken_vain (known_of c.args.medium.now) _ y views c.args.sector _ _ _ _ c.index.result.now c.ask_sector-asked.result c.ask_sector-asked.new.into
       (sized_by c.args.medium.now.extent _) c.requires.sector c.index.ensures (sym c.is_left_out.ensures ∙ c.if-not-is_left_out.false) late comes
-      (λ e. let f : asked.Unreadable ≡ asked.Read = sym c.in-Unreadable.is ∙ e in cc)
+      (λ e. ⊎_elim (λ is. let f : asked.Unreadable ≡ asked.Read = sym is ∙ e in cc) (λ is. let f : asked.Altered ≡ asked.Read = sym is ∙ e in cc) c.in-Unreadable.is)
       (ap (set c.args.reading.now.fates.items c.args.sector) c.fate_of.ensures) refl st;
   bad = λ y bad.
       takes_bad (known_of c.args.medium.now) y _ _ c.args.sector c.index.result.now c.ask_sector-asked.result _ c.requires.sector c.requires.all c.index.ensures
@@ -67,27 +67,6 @@ returns-in-Unreadable-clause-told g c = record {
 
 pub returns-in-Unreadable-clause-kept : goal.returns-in-Unreadable-clause-kept
 returns-in-Unreadable-clause-kept g c =
-    keeps_asked c.args.reading.now _ _ _ c.args.sector c.ask_sector-asked.result c.ask_sector-asked.ensures.asked.lasts c.ask_sector-asked.ensures.cause
-    (ap (set c.args.reading.now.fates.items c.args.sector) c.fate_of.ensures)
-
-pub returns-in-Altered-clause-told : goal.returns-in-Altered-clause-told
-returns-in-Altered-clause-told g c = record {
-  first_is = refl;
-  bytes_are = refl;
-  taken = λ y views tell st.
-      let comes = comes_with c.args.medium.now.extent _ _ c.args.sector c.args.tries _ c.ask_sector-asked.new.into c.ask_sector-asked.result _ c.sums.ensures.sums (c.ask_sector-asked.ensures.asked.told tell) in
-      let late : c.args.reading.now.next ≤ c.args.sector = omega (arith, c.if-sector-reading.false) in
-      taken_vain (known_of c.args.medium.now) _ y views c.args.sector _ _ _ _ c.index.result.now c.ask_sector-asked.result c.ask_sector-asked.new.into
-      (sized_by c.args.medium.now.extent _) c.requires.sector c.index.ensures (sym c.is_left_out.ensures ∙ c.if-not-is_left_out.false) late comes
-      (λ e. let f : asked.Altered ≡ asked.Read = sym c.in-Altered.is ∙ e in cc)
-      (ap (set c.args.reading.now.fates.items c.args.sector) c.fate_of.ensures) refl st;
-  bad = λ y bad.
-      takes_bad (known_of c.args.medium.now) y _ _ c.args.sector c.index.result.now c.ask_sector-asked.result _ c.requires.sector c.requires.all c.index.ensures
-      (sym c.is_left_out.ensures ∙ c.if-not-is_left_out.false) (ap (set c.args.reading.now.fates.items c.args.sector) c.fate_of.ensures) bad;
-}
-
-pub returns-in-Altered-clause-kept : goal.returns-in-Altered-clause-kept
-returns-in-Altered-clause-kept g c =
     keeps_asked c.args.reading.now _ _ _ c.args.sector c.ask_sector-asked.result c.ask_sector-asked.ensures.asked.lasts c.ask_sector-asked.ensures.cause
     (ap (set c.args.reading.now.fates.items c.args.sector) c.fate_of.ensures)
 
