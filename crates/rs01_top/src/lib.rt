@@ -10,3 +10,5 @@ pub use run::run_one;
 
 #[cfg(test)]
 mod tests;
+#[cfg(test)]
+mod tests_of_drives;
