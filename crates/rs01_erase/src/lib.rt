@@ -20,5 +20,3 @@ pub use restore::{EraseRefusal, restore_codeword};
 
 #[cfg(test)]
 mod tests;
-#[cfg(test)]
-mod tests_of_correcting;

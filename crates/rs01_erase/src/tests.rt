@@ -9,6 +9,8 @@ use rs01_poly::generator;
 use std::process::Abort;
 use std::test::Fail;
 
+mod correcting;
+
 // Whether these are places of a codeword, and rise.
 fn are_places(places: &[u8]) -> bool
     ensures rising { IsTrue result → IsStrictlyIncreasing places.now }

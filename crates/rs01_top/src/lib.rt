@@ -10,5 +10,3 @@ pub use run::run_one;
 
 #[cfg(test)]
 mod tests;
-#[cfg(test)]
-mod tests_of_drives;

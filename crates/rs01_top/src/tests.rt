@@ -8,6 +8,8 @@ use std::fmt::Write;
 use std::process::Abort;
 use std::test::Fail;
 
+mod drives;
+
 // The words of a line, parted by spaces.
 pub fn words_of(alloc: Global, line: &str) -> Result<Vec<String>, AllocError> {
     let mut words = Vec::new(alloc);

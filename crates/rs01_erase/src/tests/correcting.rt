@@ -2,8 +2,8 @@
 
 ghost use Rattle.std.specs.Prelude.{◌≡◌, ◌*◌, ◌≤◌, length};
 
-use super::*;
-use crate::tests::random_codeword;
+use super::random_codeword;
+use crate::{CorrectTask, PlainCorrectTask};
 use rs01_gf256::Gf;
 use rs01_layers::{Bytes, Flags, LayerInput, LayerOut, LayerTask, PlacedList, SumList};
 use rs01_sums::crc32;
