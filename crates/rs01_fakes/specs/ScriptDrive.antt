@@ -77,8 +77,9 @@ pub record Answered (view : DriveView) (old new : ScriptDrive) (failed : Bool) :
   pub faults : new.faults ≡ faults_after old.faults failed
   pub room : ask_room_of old ≤ ask_room_of new
 
--- a read stops the telling only where it fails and has to grow, and the number of sectors stays in any case
+-- a read stops the telling only where it fails and has to grow; the number of sectors, and whether it is told, stay in any case
 pub record Records (old new : ScriptDrive) (failed : Bool) : Type 0 where
   pub recorded : IsTrue (not failed) → tells_of new ≡ tells_of old
   pub within : length (view_of old).asked < ask_room_of old → tells_of new ≡ tells_of old
   pub number : (view_of new).number ≡ (view_of old).number
+  pub unsized : (view_of new).unsized ≡ (view_of old).unsized
