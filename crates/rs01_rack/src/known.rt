@@ -1,5 +1,5 @@
 //! What a rack tells of itself.
-ghost use Rattle.std.specs.Prelude.{◌≡◌, ◌<◌, ◌≤◌, IfOk, length, map};
+ghost use Rattle.std.specs.Prelude.{◌≡◌, ◌<◌, ◌≤◌, IsOkAnd, length, map};
 ghost use Rattle.rs01_rack.specs.Rack.{IsAskedAt, OfDrive, RackState, faults_of};
 ghost use Rattle.rs01_rack.specs.State.{rack_state};
 
@@ -26,7 +26,7 @@ impl Rack {
     /// so it never fails.
     pub fn new(_alloc: Global, drives: Vec<Box<dyn Drive>>) -> Result<Rack, AllocError>
         requires { length drives.items ≤ 65536 }
-        ensures { IfOk result (λ rack. rack_state state rack
+        ensures { IsOkAnd result (λ rack. rack_state state rack
             ≡ record { drives = map state drives.items; asks = 0 }) }
     {
         Ok(Rack { drives, asks: 0 })
