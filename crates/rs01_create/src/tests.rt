@@ -2,7 +2,7 @@
 use crate::{CreateRefusal, create_one};
 use md5::{Digest, Md5};
 use rs01_ecchead::{EccRefusal, HeadRefusal, open_ecc, sector_in};
-use rs01_fakes::MemoryDesk;
+use rs01_fakes::{MemoryDesk, sample_desk};
 use rs01_outside::{Desk, Failed};
 use rs01_report::CreateReport;
 use rs01_sums::marker;
@@ -152,6 +152,17 @@ fn a_last_sector_of_one_byte(rt: HostRuntime) -> Result<(), Fail> {
     assert!(rt; between(file, 20, 36) == FINGERPRINT.as_slice());
     assert!(rt; between(file, 92, 96) == [1, 0, 0, 0].as_slice());
     assert!(rt; between(file, 116, 120) == [1, 0, 0, 0].as_slice());
+    Ok(())
+}
+
+// The worked file that tests of the other engines begin with is the one that is made of its image.
+#[test]
+fn the_worked_pair(rt: HostRuntime) -> Result<(), Fail> {
+    let mut desk = sample_desk(rt.alloc())?;
+    let report = create_one(rt.alloc(), &mut desk, "disc.iso", "made", 8)?;
+    assert_eq!(rt; (report.sectors, report.layers, report.parity), (10, 1, 8));
+    assert_eq!(rt; desk.file("made").map(|file| file.len()), Some(20_520));
+    assert!(rt; desk.file("made") == desk.file("disc.ecc"));
     Ok(())
 }
 

@@ -4,3 +4,4 @@ pub mod Memory
 pub mod MemorySink
 pub mod Scripts
 pub mod ScriptDrive
+pub mod Sample

@@ -1,4 +1,4 @@
-use crate::{MemoryDesk, MemorySink, Script, ScriptDrive};
+use crate::{MemoryDesk, MemorySink, Script, ScriptDrive, sample_desk, sample_ecc};
 use rs01_layers::Bytes;
 use rs01_outside::{Desk, Drive, Failed, Sink};
 use std::alloc::{AllocError, Global};
@@ -256,5 +256,34 @@ fn each_ask_is_recorded_up_to_the_room_and_past_it(rt: HostRuntime) -> Result<()
     assert!(rt; drive.faults() == 9 && drive.asked_at(18) == None);
     assert!(rt; answer(&mut drive, 0) == Some([0; 3]));
     assert!(rt; drive.asked_at(18) == Some(0) && drive.asked_at(17) == Some(1));
+    Ok(())
+}
+
+// The MD5 of 2048 zeros, of 20,480 zeros, and of ten times the CRC-32 of 2048 zeros and 16,384 zeros.
+const DIGESTS: [[u8; 16]; 3] = [
+    [
+        0xc9, 0x9a, 0x74, 0xc5, 0x55, 0x37, 0x1a, 0x43, 0x3d, 0x12, 0x1f, 0x55, 0x1d, 0x6c, 0x63,
+        0x98,
+    ],
+    [
+        0xda, 0xa1, 0x00, 0xdf, 0x6e, 0x67, 0x11, 0x90, 0x6b, 0x61, 0xc9, 0xab, 0x5a, 0xa1, 0x60,
+        0x32,
+    ],
+    [
+        0xd8, 0x7f, 0xa4, 0x30, 0x4e, 0x88, 0x59, 0x36, 0x92, 0x5b, 0xe2, 0x6b, 0x75, 0x95, 0x03,
+        0x06,
+    ],
+];
+
+#[test]
+fn the_worked_pair(rt: HostRuntime) -> Result<(), AllocError> {
+    let desk = sample_desk(rt.alloc())?;
+    let image = desk.file("disc.iso").unwrap_or(&[]);
+    assert!(rt; image.len() == 20_480 && image.iter().all(|byte| *byte == 0));
+    let file = sample_ecc(rt.alloc())?;
+    assert!(rt; holds(&desk, "disc.ecc", file.as_slice()) && file.len() == 20_520);
+    for (at, want) in [(20usize, DIGESTS[0]), (36, DIGESTS[1]), (52, DIGESTS[2])] {
+        assert!(rt; file.get(at..at + 16) == Some(want.as_slice()), "at {at}");
+    }
     Ok(())
 }

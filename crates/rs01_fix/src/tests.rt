@@ -1,51 +1,14 @@
 //! A small image that is repaired.
 use super::*;
 use md5::{Digest, Md5};
-use rs01_ecchead::{Head, HeadRefusal, Which, write_head};
-use rs01_fakes::MemoryDesk;
-use rs01_lists::push_zeros;
+use rs01_ecchead::{HeadRefusal, Which};
+use rs01_fakes::{MemoryDesk, sample_desk, sample_ecc};
 use rs01_outside::Desk;
 use rs01_report::{FixReport, Strange, Why};
-use rs01_sums::{crc32, marker};
-use std::alloc::{AllocError, Global};
+use rs01_sums::marker;
+use std::alloc::Global;
 use std::process::Abort;
 use std::test::Fail;
-
-// The error correction file of an image of 10 sectors of zeros: 8 parity bytes a codeword, which are zeros too.
-fn ecc_bytes(alloc: Global) -> Result<Vec<u8>, AllocError> {
-    let block = [0u8; 2048];
-    let mut body = Vec::new(alloc);
-    for _sector in 0..10 {
-        body.extend_from_slice(&crc32(&block).to_le_bytes())?;
-    }
-    push_zeros(2048 * 8, &mut body)?;
-    let head = Head {
-        flags: 0,
-        fingerprint: Md5::digest(&block),
-        image_sum: Md5::digest(&[0u8; 20_480]),
-        body_sum: Md5::digest(&body),
-        sectors: 10,
-        parity: 8,
-        creator: 1,
-        needed: 1,
-        mark_sector: 9,
-        last_bytes: 2048,
-    };
-    let mut header = [0u8; 4096];
-    write_head(&head, &mut header);
-    let mut bytes = Vec::new(alloc);
-    bytes.extend_from_slice(&header)?;
-    bytes.extend_from_slice(&body)?;
-    Ok(bytes)
-}
-
-// A desk with that image and its error correction file.
-fn protected(alloc: Global) -> Result<MemoryDesk, AllocError> {
-    let mut desk = MemoryDesk::new(alloc);
-    desk.put_file(alloc, "disc.iso", &[0u8; 20_480])?;
-    desk.put_file(alloc, "disc.ecc", &ecc_bytes(alloc)?)?;
-    Ok(desk)
-}
 
 // A file is cut, and then bytes are put at a place of it.
 fn change(desk: &mut MemoryDesk, name: &str, len: u64, at: u64, bytes: &[u8]) -> bool {
@@ -119,7 +82,7 @@ fn images_come_back(rt: HostRuntime) -> Result<(), Fail> {
         },
         Row { cut: true, ..WHOLE },
     ] {
-        let mut desk = protected(rt.alloc())?;
+        let mut desk = sample_desk(rt.alloc())?;
         assert!(rt; change(&mut desk, "disc.iso", row.len, row.at, row.bytes));
         let report = fix(rt.alloc(), &mut desk, row.cut)?;
         assert!(rt; report.restored.items() == row.restored);
@@ -133,12 +96,12 @@ fn images_come_back(rt: HostRuntime) -> Result<(), Fail> {
 // Nine of ten sectors are gone, which is one more than there are parity bytes: those that are absent get their markers.
 #[test]
 fn markers_of_absent_sectors(rt: HostRuntime) -> Result<(), Fail> {
-    let mut desk = protected(rt.alloc())?;
+    let mut desk = sample_desk(rt.alloc())?;
     assert!(rt; change(&mut desk, "disc.iso", 2053, 0, b""));
     let report = fix(rt.alloc(), &mut desk, false)?;
     assert!(rt; report.restored.len() == 0 && report.strange.len() == 0);
     assert!(rt; report.lost.items() == [1u32, 2, 3, 4, 5, 6, 7, 8, 9].as_slice());
-    let mut want = protected(rt.alloc())?;
+    let mut want = sample_desk(rt.alloc())?;
     let mut block = [0u8; 2048];
     for sector in 1..10 {
         marker(sector, &mut block);
@@ -169,7 +132,7 @@ fn strange_layers(rt: HostRuntime) -> Result<(), Fail> {
         (4096 + 4 * 3, &[3], Why::Sum(3)),
     ];
     for (at, lost, why) in cases {
-        let mut desk = protected(rt.alloc())?;
+        let mut desk = sample_desk(rt.alloc())?;
         assert!(rt; change_ecc(&mut desk, at));
         let report = fix(rt.alloc(), &mut desk, false)?;
         assert!(rt; report.strange.items() == [Strange { layer: 0, why }].as_slice());
@@ -204,7 +167,7 @@ fn refusals(rt: HostRuntime) -> Result<(), Fail> {
         (20_520, 0, b"+", FixRefusal::Head(HeadRefusal::Cookie)),
     ];
     for (len, at, bytes, want) in cases {
-        let mut desk = protected(rt.alloc())?;
+        let mut desk = sample_desk(rt.alloc())?;
         assert!(rt; change(&mut desk, "disc.ecc", len, at, bytes));
         assert!(rt;
             fix(rt.alloc(), &mut desk, false).err() == Some(want),
@@ -215,7 +178,7 @@ fn refusals(rt: HostRuntime) -> Result<(), Fail> {
     let mut desk = MemoryDesk::new(rt.alloc());
     let absent = fix(rt.alloc(), &mut desk, false).err();
     assert!(rt; absent == Some(FixRefusal::NoFile(Which::Ecc)));
-    desk.put_file(rt.alloc(), "disc.ecc", &ecc_bytes(rt.alloc())?)?;
+    desk.put_file(rt.alloc(), "disc.ecc", &sample_ecc(rt.alloc())?)?;
     let absent = fix(rt.alloc(), &mut desk, false).err();
     assert!(rt; absent == Some(FixRefusal::NoFile(Which::Image)));
     assert!(rt; desk.file("disc.iso").is_none());
@@ -227,7 +190,7 @@ fn refusals(rt: HostRuntime) -> Result<(), Fail> {
 #[test]
 fn each_call_failing_in_turn(rt: HostRuntime) -> Result<(), Fail> {
     for call in 0..10 {
-        let mut desk = protected(rt.alloc())?;
+        let mut desk = sample_desk(rt.alloc())?;
         assert!(rt; change(&mut desk, "disc.iso", 20_480, 2047, b"!!"));
         assert!(rt; desk.write_at("disc.iso", 20_480, b"!").is_ok());
         let mut again = MemoryDesk::new(rt.alloc());

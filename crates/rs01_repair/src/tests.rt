@@ -1,46 +1,15 @@
 //! The layer of a small image.
 use super::*;
-use md5::{Digest, Md5};
-use rs01_ecchead::{Head, open_ecc, write_head};
-use rs01_fakes::MemoryDesk;
-use rs01_lists::{push_zeros, zeroed};
-use rs01_sums::crc32;
+use rs01_ecchead::open_ecc;
+use rs01_fakes::sample_desk;
+use rs01_lists::zeroed;
 use std::alloc::{AllocError, Global};
 use std::process::Abort;
 use std::test::Fail;
 
-// The error correction file of an image of 10 sectors of zeros: 8 parity bytes a codeword, which are zeros too.
-fn ecc_bytes(alloc: Global) -> Result<Vec<u8>, AllocError> {
-    let block = [0u8; 2048];
-    let mut body = Vec::new(alloc);
-    for _sector in 0..10 {
-        body.extend_from_slice(&crc32(&block).to_le_bytes())?;
-    }
-    push_zeros(2048 * 8, &mut body)?;
-    let head = Head {
-        flags: 0,
-        fingerprint: Md5::digest(&block),
-        image_sum: Md5::digest(&[0u8; 20_480]),
-        body_sum: Md5::digest(&body),
-        sectors: 10,
-        parity: 8,
-        creator: 1,
-        needed: 1,
-        mark_sector: 9,
-        last_bytes: 2048,
-    };
-    let mut header = [0u8; 4096];
-    write_head(&head, &mut header);
-    let mut bytes = Vec::new(alloc);
-    bytes.extend_from_slice(&header)?;
-    bytes.extend_from_slice(&body)?;
-    Ok(bytes)
-}
-
 // An image file that is held with that error correction file.
 fn hold(alloc: Global, image: Vec<u8>) -> Result<Held, Fail> {
-    let mut desk = MemoryDesk::new(alloc);
-    desk.put_file(alloc, "disc.ecc", &ecc_bytes(alloc)?)?;
+    let mut desk = sample_desk(alloc)?;
     let ecc = open_ecc(alloc, &mut desk, "disc.ecc")?;
     Ok(Held::new(alloc, ecc, image)?)
 }

@@ -15,5 +15,3 @@ pub use verifying::verify;
 
 #[cfg(test)]
 mod tests;
-#[cfg(test)]
-mod tests_of_scanning;

@@ -1,51 +1,14 @@
 //! A small image, checked whole and changed.
 use super::*;
-use md5::{Digest, Md5};
-use rs01_ecchead::{Head, HeadRefusal, Which, write_head};
-use rs01_fakes::MemoryDesk;
-use rs01_lists::push_zeros;
+use rs01_ecchead::{HeadRefusal, Which};
+use rs01_fakes::{MemoryDesk, sample_desk, sample_ecc};
 use rs01_outside::Desk;
 use rs01_report::{Mark, VerifyReport};
-use rs01_sums::crc32;
-use std::alloc::{AllocError, Global};
+use std::alloc::Global;
 use std::process::Abort;
 use std::test::Fail;
 
-// The error correction file of an image of 10 sectors of zeros: 8 parity bytes a codeword, which are zeros too.
-fn ecc_bytes(alloc: Global) -> Result<Vec<u8>, AllocError> {
-    let block = [0u8; 2048];
-    let mut body = Vec::new(alloc);
-    for _sector in 0..10 {
-        body.extend_from_slice(&crc32(&block).to_le_bytes())?;
-    }
-    push_zeros(2048 * 8, &mut body)?;
-    let head = Head {
-        flags: 0,
-        fingerprint: Md5::digest(&block),
-        image_sum: Md5::digest(&[0u8; 20_480]),
-        body_sum: Md5::digest(&body),
-        sectors: 10,
-        parity: 8,
-        creator: 1,
-        needed: 1,
-        mark_sector: 9,
-        last_bytes: 2048,
-    };
-    let mut header = [0u8; 4096];
-    write_head(&head, &mut header);
-    let mut bytes = Vec::new(alloc);
-    bytes.extend_from_slice(&header)?;
-    bytes.extend_from_slice(&body)?;
-    Ok(bytes)
-}
-
-// A desk with that image and its error correction file.
-pub fn protected(alloc: Global) -> Result<MemoryDesk, AllocError> {
-    let mut desk = MemoryDesk::new(alloc);
-    desk.put_file(alloc, "disc.iso", &[0u8; 20_480])?;
-    desk.put_file(alloc, "disc.ecc", &ecc_bytes(alloc)?)?;
-    Ok(desk)
-}
+mod scanning;
 
 // A file is cut, and then bytes are put at a place of it.
 fn change(desk: &mut MemoryDesk, name: &str, len: u64, at: u64, bytes: &[u8]) -> bool {
@@ -120,7 +83,7 @@ fn images(rt: HostRuntime) -> Result<(), Fail> {
             ..WHOLE
         },
     ] {
-        let mut desk = protected(rt.alloc())?;
+        let mut desk = sample_desk(rt.alloc())?;
         assert!(rt; change(&mut desk, "disc.iso", row.len, row.at, row.bytes));
         let report = check(rt.alloc(), &mut desk)?;
         assert!(rt; report.missing.items() == row.missing);
@@ -162,7 +125,7 @@ fn refusals(rt: HostRuntime) -> Result<(), Fail> {
         (20_520, 0, b"+", VerifyRefusal::Head(HeadRefusal::Cookie)),
     ];
     for (len, at, bytes, want) in cases {
-        let mut desk = protected(rt.alloc())?;
+        let mut desk = sample_desk(rt.alloc())?;
         assert!(rt; change(&mut desk, "disc.ecc", len, at, bytes));
         assert!(rt;
             check(rt.alloc(), &mut desk).err() == Some(want),
@@ -172,7 +135,7 @@ fn refusals(rt: HostRuntime) -> Result<(), Fail> {
     let mut desk = MemoryDesk::new(rt.alloc());
     let absent = check(rt.alloc(), &mut desk).err();
     assert!(rt; absent == Some(VerifyRefusal::NoFile(Which::Ecc)));
-    desk.put_file(rt.alloc(), "disc.ecc", &ecc_bytes(rt.alloc())?)?;
+    desk.put_file(rt.alloc(), "disc.ecc", &sample_ecc(rt.alloc())?)?;
     let absent = check(rt.alloc(), &mut desk).err();
     assert!(rt; absent == Some(VerifyRefusal::NoFile(Which::Image)));
     Ok(())
@@ -182,13 +145,13 @@ fn refusals(rt: HostRuntime) -> Result<(), Fail> {
 #[test]
 fn each_call_failing_in_turn(rt: HostRuntime) -> Result<(), Fail> {
     for call in 0..6 {
-        let mut desk = protected(rt.alloc())?;
+        let mut desk = sample_desk(rt.alloc())?;
         desk.fail_call(call);
         let refused = check(rt.alloc(), &mut desk).err();
         assert!(rt; refused == Some(VerifyRefusal::ReadFault), "call {call}");
         assert!(rt; desk.read_faults() == 1 && desk.write_faults() == 0);
     }
-    let mut desk = protected(rt.alloc())?;
+    let mut desk = sample_desk(rt.alloc())?;
     desk.fail_call(6);
     assert!(rt; check(rt.alloc(), &mut desk).is_ok());
     Ok(())

@@ -1,7 +1,6 @@
 //! Scans in which one call fails.
-use super::*;
-use crate::tests::protected;
-use rs01_fakes::{MemoryDesk, Script, ScriptDrive};
+use crate::scan;
+use rs01_fakes::{MemoryDesk, Script, ScriptDrive, sample_desk};
 use rs01_linear::ReadRefusal;
 use rs01_outside::{Desk, Drive};
 use rs01_rack::{Rack, RackRefusal};
@@ -27,7 +26,7 @@ fn scanned(
 #[test]
 fn each_call_of_the_desk_failing_in_turn(rt: HostRuntime) -> Result<(), Fail> {
     for call in 0..5 {
-        let mut desk = protected(rt.alloc())?;
+        let mut desk = sample_desk(rt.alloc())?;
         desk.fail_call(call);
         let drive = ScriptDrive::new(rt.alloc(), 10)?;
         let (answer, asks) = scanned(rt.alloc(), &mut desk, drive)?;
@@ -44,7 +43,7 @@ fn each_call_of_the_desk_failing_in_turn(rt: HostRuntime) -> Result<(), Fail> {
 
 #[test]
 fn each_call_of_the_drive_failing_in_turn(rt: HostRuntime) -> Result<(), Fail> {
-    let mut desk = protected(rt.alloc())?;
+    let mut desk = sample_desk(rt.alloc())?;
     for sector in 0..10u32 {
         let mut drive = ScriptDrive::new(rt.alloc(), 10)?;
         drive.steady(rt.alloc(), sector, Script::Fault)?;
