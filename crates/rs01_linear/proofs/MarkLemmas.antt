@@ -1,6 +1,6 @@
 -- Marking the sectors of a file that aren't good.
 use Rattle.std.proofs.Common.{◌≡◌, ℕ, zero, suc, ◌+◌, ◌-◌, ◌*◌, ◌<◌, ◌≤◌, ◌∙◌, ap, arith, sym, refl, Bool, true, false, cond, List, [], ◌∷◌, ◌++◌, length, take, drop, ⊎_elim, append-nil}
-use Rattle.std.specs.Prelude.{IsTrue, Option, Some, not, ◌||◌, slice_get}
+use Rattle.std.specs.Prelude.{Err, IsTrue, Option, Some, not, ◌||◌, slice_get}
 use Rattle.std.specs.List.{flat_map, range_with_len}
 use Rattle.std.specs.Option.{option_map}
 use Rattle.std.proofs.lemmas.Bool.{cases_lt, lt-ltb}
@@ -17,15 +17,16 @@ use Rattle.rs01_sums.specs.Marker.{marker}
 use Rattle.rs01_sums.specs.Usable.{is_usable}
 use Rattle.rs01_sums.proofs.MarkerLemmas.{length-marker}
 use Rattle.rs01_outside.specs.DeskState.{DeskState, WorksOn}
+use Rattle.rs01_outside.specs.Files.{Files, Writes, WritesAt}
 use Rattle.rs01_ecchead.specs.Erased.{Known, block_in, image_len, is_absent, is_erased}
 use Rattle.rs01_layers.specs.declared.extent.Extent.{Extent}
 use Rattle.rs01_linear.specs.Asking.{known_with}
 use Rattle.rs01_linear.specs.Left.{first_fate, first_fates, marked, marked_sector, mixed}
-use Rattle.rs01_linear.specs.Marking.{is_left_out, place}
+use Rattle.rs01_linear.specs.Marking.{IsMixed, is_left_out, place}
 use Rattle.rs01_linear.specs.declared.fate.Fate.{Fate}
 use Rattle.rs01_linear.specs.declared.fate.Fate.TheVariants.{Kept, LeftOut}
 use Rattle.rs01_linear.proofs.LaidLemmas.{Fills, Sized, laid, laid_long, laid_part, place_more, place_of, place_order, place_within, width, width_le}
-use Rattle.rs01_linear.proofs.MixedLemmas.{same_mixed}
+use Rattle.rs01_linear.proofs.MixedLemmas.{extend, extend_failed, same_mixed}
 
 -- the block that a sector has before anything is asked for
 length-choice : (known : Known) (y : List ℕ) (s : ℕ) (erased : Bool) → Sized known → length (cond erased (marker s) (block_in known y s)) ≡ 2048
@@ -161,6 +162,40 @@ run_within known y at past sized order =
 
 pub run_place : (known : Known) (at past : ℕ) → at ≤ past → place known at + (place known past - place known at) ≡ place known past
 run_place known at past order = omega (arith, place_order known at past order)
+
+-- the markers of a run, as they go out by one write: they are those that the marked file has at the first sector's place
+pub record IsRun (known : Known) (y : List ℕ) (at past offset : ℕ) (bytes : List ℕ) : Type 0 where
+  pub order : at ≤ past
+  pub sized : Sized known
+  pub here : offset ≡ place known at
+  pub are : bytes ≡ part (marked known y) (place known at) (place known past - place known at)
+
+pub is_run : (extent : Extent) (sums : Option (List ℕ)) (y : List ℕ) (fates : List Fate) (at past offset : ℕ) (bytes : List ℕ) → let known = known_with extent sums in
+    fates ≡ first_fates known y → at < extent.sectors → at ≤ past → past ≤ extent.sectors
+    → ((k : ℕ) → at ≤ k → k < past → option_map is_left_out (slice_get fates k) ≡ Some true)
+    → offset ≡ 2048 * at → bytes ≡ flat_map (λ s. take (width known s) (marker s)) (range_with_len at (past - at)) → IsRun known y at past offset bytes
+is_run extent sums y fates at past offset bytes are below order inside left here is =
+    let known = known_with extent sums in
+    let sized = sized_by extent sums in
+    record {
+      order = order;
+      sized = sized;
+      here = here ∙ sym (place_of known at sized below);
+      are = run_bytes known y fates at past bytes sized are order inside left is;
+    }
+
+-- the file once such a run is written, and what stands where that failed
+pub run_put : (known : Known) (y : List ℕ) (at past offset : ℕ) (bytes name : List ℕ) (old new : Files) → IsRun known y at past offset bytes
+    → old name ≡ Some (mixed (place known at) (marked known y) y) → Writes old new name offset bytes → new name ≡ Some (mixed (place known past) (marked known y) y)
+run_put known y at past offset bytes name old new run is written =
+    extend old new name (marked known y) y bytes (place known at) (place known past - place known at) offset (run_within known y at past run.sized run.order) run.here run.are is written
+    ∙ ap (λ n. Some (mixed n (marked known y) y)) (run_place known at past run.order)
+
+pub run_failed : {E : Type 0} (known : Known) (y : List ℕ) (at past offset : ℕ) (bytes name : List ℕ) (old new : Files) (e : E) → IsRun known y at past offset bytes
+    → old name ≡ Some (mixed (place known at) (marked known y) y) → WritesAt old new name offset bytes (Err e) → IsMixed (marked known y) y (new name)
+run_failed known y at past offset bytes name old new e run is written =
+    extend_failed old new name (marked known y) y bytes (place known at) (place known past - place known at) offset e (run_within known y at past run.sized run.order)
+    run.here run.are is written
 
 -- how far the marking has come
 pub record IsMarking (extent : Extent) (fates : List Fate) (name : List ℕ) (first : ℕ) (old now : DeskState) : Type 0 where

@@ -152,6 +152,41 @@ not_read (Some block) answered kind is ne = absurd (ne is)
 asked_so : (known : Known) (s tries : ℕ) (course : Course) (rack : RackState) → views_of rack ≡ course.views → ask_drives known s tries (views_of rack) ≡ ask_drives known s tries course.views
 asked_so known s tries course rack same = ap (ask_drives known s tries) same
 
+-- the asking of a sector beside a course, and the course behind it
+abbrev asking_of : Known → Manner → ℕ → Course → Asking
+asking_of known manner s course = ask_drives known s manner.tries course.views
+
+abbrev asked_course : Known → Manner → ℕ → Course → Course
+asked_course known manner s course = asked_for known manner s (asking_of known manner s course) course
+
+-- a sector that was asked for: its answer is the course's, and so is what follows, by where asking goes on
+record IsAsked (known : Known) (manner : Manner) (y : List ℕ) (views : List DriveView) (s : ℕ) (rack' : RackState) (reading' : Reading) (kind : Asked) : Type 0 where
+  bad : is_erased known y s ≡ true
+  is : pass known manner y s (read_to known manner y views s) ≡ asked_course known manner s (read_to known manner y views s)
+  answer : kind ≡ kind_of (asking_of known manner s (read_to known manner y views s))
+  goes_on : reading'.next ≡ (asked_course known manner s (read_to known manner y views s)).next → Follows known manner y views (s + 1) rack' reading'
+
+is_asked : (known : Known) (manner : Manner) (y : List ℕ) (views : List DriveView) (s : ℕ) (rack rack' : RackState) (reading reading' : Reading) (fate : Fate) (kind : Asked)
+    (block : List ℕ) → Sized known → s < known.sectors → fate ≡ get_or reading.fates.items s fate → is_left_out fate ≡ true → reading.next ≤ s
+    → ComesTo (ask_drives known s manner.tries (views_of rack)) block kind (views_of rack') → reading'.fates.items ≡ set reading.fates.items s (fate_of kind)
+    → Follows known manner y views s rack reading → IsAsked known manner y views s rack' reading' kind
+is_asked known manner y views s rack rack' reading reading' fate kind block sized below here left late comes put st =
+    let course = read_to known manner y views s in
+    let so = asked_so known s manner.tries course rack st.views_are in
+    let long = length-fates known manner y views s sized in
+    let bad = erased_here known y s fate true course.fates reading.fates.items below long st.fates_are here left in
+    let is = pass_asked known manner y s course bad (omega (arith, late, st.next_is)) in
+    let answer : kind ≡ kind_of (asking_of known manner s course) = comes.answer ∙ ap kind_of so in
+    record {
+      bad = bad;
+      is = is;
+      answer = answer;
+      goes_on = λ next.
+          follows_next known manner y views s rack' reading' (asked_course known manner s course) is (comes.views_are ∙ ap (λ (a : Asking). a.views) so) next
+          (fates_put known y s (fate_of (kind_of (asking_of known manner s course))) course.fates reading.fates.items reading'.fates.items below long st.fates_are
+          (put ∙ ap (λ k. set reading.fates.items s (fate_of k)) answer));
+    }
+
 -- one that was asked for in vain
 pub taken_vain : (known : Known) (manner : Manner) (y : List ℕ) (views : List DriveView) (s : ℕ) (rack rack' : RackState) (reading reading' : Reading)
     (fate : Fate) (kind : Asked) (block : List ℕ)
@@ -161,24 +196,17 @@ pub taken_vain : (known : Known) (manner : Manner) (y : List ℕ) (views : List 
     → Follows known manner y views s rack reading → Taken known manner y views s rack' reading' block false
 taken_vain known manner y views s rack rack' reading reading' fate kind block sized below here left late comes vain put next st =
     let course = read_to known manner y views s in
-    let asking = ask_drives known s manner.tries course.views in
-    let so = asked_so known s manner.tries course rack st.views_are in
-    let long = length-fates known manner y views s sized in
-    let bad = erased_here known y s fate true course.fates reading.fates.items below long st.fates_are here left in
-    let is = pass_asked known manner y s course bad (omega (arith, late, st.next_is)) in
-    let answer : kind ≡ kind_of asking = comes.answer ∙ ap kind_of so in
-    let none : asking.read ≡ None = not_read asking.read asking.answered kind answer vain in
+    let asking = asking_of known manner s course in
+    let found = is_asked known manner y views s rack rack' reading reading' fate kind block sized below here left late comes put st in
+    let none : asking.read ≡ None = not_read asking.read asking.answered kind found.answer vain in
     let same : take (width known s) (unwrap_or asking.read (marker s)) ≡ marked_sector known y s =
     ap (λ (o : Option (List ℕ)). take (width known s) (unwrap_or o (marker s))) none
-    ∙ ap (λ b. take (width known s) (cond b (marker s) (block_in known y s))) (sym bad) in
+    ∙ ap (λ b. take (width known s) (cond b (marker s) (block_in known y s))) (sym found.bad) in
     record {
-      follows =
-          follows_next known manner y views s rack' reading' (asked_for known manner s asking course) is
-          (comes.views_are ∙ ap (λ (a : Asking). a.views) so)
-          (next ∙ sym (ap (λ (o : Option (List ℕ)). cond (is_some o) course.next (s + manner.jump)) none))
-          (fates_put known y s (fate_of (kind_of asking)) course.fates reading.fates.items reading'.fates.items below long st.fates_are
-          (put ∙ ap (λ k. set reading.fates.items s (fate_of k)) answer));
-      gives = piece_stays known manner y views s (unwrap_or asking.read (marker s)) (asked_for known manner s asking course) sized below is refl same (marked_wide known y s sized below);
+      follows = found.goes_on (next ∙ sym (ap (λ (o : Option (List ℕ)). cond (is_some o) course.next (s + manner.jump)) none));
+      gives =
+          piece_stays known manner y views s (unwrap_or asking.read (marker s)) (asked_course known manner s course) sized below found.is refl same
+          (marked_wide known y s sized below);
     }
 
 -- what is left has the block that was read
@@ -200,21 +228,13 @@ pub taken_read : (known : Known) (manner : Manner) (y : List ℕ) (views : List 
     → Follows known manner y views s rack reading → Taken known manner y views s rack' reading' block true
 taken_read known manner y views s rack rack' reading reading' fate kind block sized below here left late comes read whole put next st =
     let course = read_to known manner y views s in
-    let asking = ask_drives known s manner.tries course.views in
+    let asking = asking_of known manner s course in
     let so = asked_so known s manner.tries course rack st.views_are in
-    let long = length-fates known manner y views s sized in
-    let bad = erased_here known y s fate true course.fates reading.fates.items below long st.fates_are here left in
-    let is = pass_asked known manner y s course bad (omega (arith, late, st.next_is)) in
-    let answer : kind ≡ kind_of asking = comes.answer ∙ ap kind_of so in
+    let found = is_asked known manner y views s rack rack' reading reading' fate kind block sized below here left late comes put st in
     let some : asking.read ≡ Some block = sym (ap (λ (a : Asking). a.read) so) ∙ comes.block_is read in
     record {
-      follows =
-          follows_next known manner y views s rack' reading' (asked_for known manner s asking course) is
-          (comes.views_are ∙ ap (λ (a : Asking). a.views) so)
-          (next ∙ st.next_is ∙ sym (ap (λ (o : Option (List ℕ)). cond (is_some o) course.next (s + manner.jump)) some))
-          (fates_put known y s (fate_of (kind_of asking)) course.fates reading.fates.items reading'.fates.items below long st.fates_are
-          (put ∙ ap (λ k. set reading.fates.items s (fate_of k)) answer));
-      gives = sym (read_part known manner y views s asking block sized below is some whole);
+      follows = found.goes_on (next ∙ st.next_is ∙ sym (ap (λ (o : Option (List ℕ)). cond (is_some o) course.next (s + manner.jump)) some));
+      gives = sym (read_part known manner y views s asking block sized below found.is some whole);
     }
 
 -- the same asking, by checksums that are the same

@@ -1,9 +1,9 @@
 //! Opening a medium.
-ghost use Rattle.std.specs.Prelude.{◌≡◌, ◌≤◌, IfErr, IsTrue, false, length};
+ghost use Rattle.std.specs.Prelude.{◌≤◌, IfErr, IsTrue, length};
 ghost use Rattle.rs01_outside.specs.DeskState.{OnlyReads};
 ghost use Rattle.rs01_linear.specs.Medium.{Finds, MakesMedium, OpensGiven, TellsFound, TellsKnown, file_given};
 ghost use Rattle.rs01_linear.specs.Racks.{OnRack};
-ghost use Rattle.rs01_linear.specs.Refusal.{IsOfOpening, IsOfReading, is_read_fault, is_write_fault};
+ghost use Rattle.rs01_linear.specs.Refusal.{IsOfOpening, IsOfReading, is_read_fault};
 
 use crate::medium::Medium;
 use crate::refusal::ReadRefusal;
@@ -67,7 +67,6 @@ pub fn open_medium<D: Desk>(
 ) -> Result<Medium, ReadRefusal>
     requires few { length rack.old.drives.items ≤ 65536 }
     ensures reads { OnlyReads (D.state desk.old) (D.state desk.new) (is_read_fault result) }
-    ensures no_write { is_write_fault result ≡ false }
     ensures asked { OnRack ⟦<dyn Drive as Drive>⟧ (Finds result) rack.old rack.new }
     ensures told { let finds = TellsFound (D.state desk.old) ecc.entry result in
         OnRack ⟦<dyn Drive as Drive>⟧ finds rack.old rack.new }
