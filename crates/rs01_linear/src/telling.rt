@@ -1,8 +1,8 @@
 //! What is told of a medium that was read.
-ghost use Rattle.std.specs.Prelude.{◌≡◌, ◌<◌, ◌^◌, ◌++◌, ◌∷◌, [], if◌then◌else◌, IfOk, OnOk, length};
+ghost use Rattle.std.specs.Prelude.{◌≡◌, ◌<◌, ◌^◌, IfOk, length};
 
 use crate::fate::Fate;
-use rs01_report::{ReadReport, SectorList, StrangeList};
+use rs01_report::{ReadReport, SectorList, StrangeList, push_if};
 use std::alloc::{AllocError, Global};
 
 // Which sectors are told together.
@@ -35,19 +35,6 @@ fn is_told(kind: Told, fate: Fate) -> bool
             Fate::Altered => true,
             Fate::LeftOut => true,
         },
-    }
-}
-
-// Puts a sector behind a list where it belongs there.
-fn push_if(list: &mut Vec<u32>, belongs: bool, sector: u32) -> Result<(), AllocError>
-    ensures { OnOk result (list.new.items
-        ≡ list.old.items ++ (if belongs then sector ∷ [] else [])) }
-{
-    if belongs {
-        list.push(sector)?;
-        Ok(())
-    } else {
-        Ok(())
     }
 }
 

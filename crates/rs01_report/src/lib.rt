@@ -12,7 +12,7 @@ mod texts;
 
 pub use faults::Fault;
 pub use laws::runs_are_maximal;
-pub use lists::{SectorList, StrangeList, push_list};
+pub use lists::{SectorList, StrangeList, push_if, push_list};
 pub use puts::{
     PutRefusal, put_create, put_demo, put_fault, put_fix, put_read, put_scan, put_verify,
 };

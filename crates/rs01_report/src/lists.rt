@@ -1,6 +1,6 @@
 //! Rising lists of sectors, and how they are printed.
 
-ghost use Rattle.std.specs.Prelude.{◌≡◌, ◌+◌, ◌↔◌, ◌++◌, ◌∷◌, [], IsTrue};
+ghost use Rattle.std.specs.Prelude.{◌≡◌, ◌+◌, ◌↔◌, ◌++◌, ◌∷◌, [], if◌then◌else◌, IsTrue, OnOk};
 ghost use Rattle.rs01_report.specs.Lines.{Adds};
 ghost use Rattle.rs01_report.specs.Runs.{list_text, ranges_text, run_text};
 
@@ -14,6 +14,19 @@ pub type SectorList = Listed<u32>;
 
 /// A list of strange layers.
 pub type StrangeList = Listed<Strange>;
+
+/// Puts a sector behind others where it belongs there, and leaves them else.
+pub fn push_if(list: &mut Vec<u32>, belongs: bool, sector: u32) -> Result<(), AllocError>
+    ensures { OnOk result (list.new.items
+        ≡ list.old.items ++ (if belongs then sector ∷ [] else [])) }
+{
+    if belongs {
+        list.push(sector)?;
+        Ok(())
+    } else {
+        Ok(())
+    }
+}
 
 // Whether a sector is the next one.
 fn follows(last: u32, sector: u32) -> bool
