@@ -1,5 +1,5 @@
 //! What is told of a repaired image.
-ghost use Rattle.std.specs.Prelude.{◌≡◌, ◌<◌, ◌&&◌, ◌++◌, ◌∷◌, [], if◌then◌else◌, IfOk, List, OnOk, filter, length, nat_lt, ℕ};
+ghost use Rattle.std.specs.Prelude.{◌≡◌, ◌<◌, ◌&&◌, IfOk, List, filter, length, nat_lt, ℕ};
 ghost use Rattle.std.specs.List.{range_with_len};
 ghost use Rattle.rs01_ecchead.specs.Erased.{image_len, known_of};
 ghost use Rattle.rs01_repair.specs.Holding.{layers_in};
@@ -7,21 +7,8 @@ ghost use Rattle.rs01_fix.specs.Steps.{AreKept, FlagLayers, IsToldOf, is_told};
 
 use crate::repair::Repairs;
 use rs01_repair::Held;
-use rs01_report::{FixReport, SectorList, StrangeList};
+use rs01_report::{FixReport, SectorList, StrangeList, push_if};
 use std::alloc::{AllocError, Global};
-
-// Puts a sector behind a list where it belongs there.
-fn push_if(list: &mut Vec<u32>, belongs: bool, sector: u32) -> Result<(), AllocError>
-    ensures { OnOk result (list.new.items
-        ≡ list.old.items ++ (if belongs then sector ∷ [] else [])) }
-{
-    if belongs {
-        list.push(sector)?;
-        Ok(())
-    } else {
-        Ok(())
-    }
-}
 
 // Whether a sector is told as restored, or as lost, by the flags of the restored layers.
 fn belongs(held: &Held, flags: &[bool], restored: bool, sector: u32) -> bool
