@@ -1,0 +1,4 @@
+pub mod Turns
+pub mod Moments
+pub mod Leads
+pub mod Laws
