@@ -247,6 +247,7 @@ found_rack : (known : Known) (s tries first place : ℕ) (block : List ℕ) (now
 found_rack known s tries first place block now new gave = record {
   number = gave.number;
   each = found_lasts s tries first place block now new gave;
+  later = omega (arith, gave.asks);
   asks = λ tell.
       let rest = found_rest known s tries first place block now new gave tell in
       record {
@@ -260,6 +261,7 @@ none_rack : (known : Known) (s tries first : ℕ) (now new : RackState) → Gave
 none_rack known s tries first now new gave = record {
   number = gave.number;
   each = none_lasts s tries first now new gave;
+  later = omega (arith, gave.asks);
   asks = λ tell.
       let n = length (drop first now.drives) in
       let rest = none_rest known s tries first now new gave tell in

@@ -73,6 +73,7 @@ pub number_lasts : (answer : Result ℕ RackRefusal) (old new : RackState) → o
 number_lasts answer old new small gives = record {
   number = gives.number;
   each = λ k b a was is. (drives_stay answer old new gives k b a was is).lasts;
+  later = omega (arith, gives.asks);
   asks = λ tell.
       record {
         more = 0;

@@ -36,6 +36,7 @@ pub rack_lasts : (rack : RackState) → rack.asks < 2 ^ 128 → RackLasts rack r
 rack_lasts rack small = record {
   number = refl;
   each = λ k b a was is. same_lasts rack.drives rack.drives k b a refl was is;
+  later = omega arith;
   asks = λ tell. record { more = 0; shown = omega arith; counted = omega (arith, small) };
 }
 
@@ -48,6 +49,7 @@ lasts_then one two three first second = record {
       let early = first.each k b m was there in
       let late = second.each k m a there is in
       record { told_before = λ t. early.told_before (late.told_before t); later = omega (arith, early.later, late.later) };
+  later = omega (arith, first.later, second.later);
   asks = λ tell.
       let late = second.asks tell in
       let early = first.asks (told_before two three second tell) in

@@ -20,10 +20,11 @@ pub record CountsAsks (old new : RackState) : Type 0 where
   pub shown : asks_in (views_of new) ≡ asks_in (views_of old) + more
   pub counted : new.asks ≡ capped (old.asks + more)
 
--- the drives are still the same ones
+-- the drives are still the same ones, and the rack's count of asks never falls
 pub record RackLasts (old new : RackState) : Type 0 where
   pub number : length new.drives ≡ length old.drives
   pub each : (k : ℕ) → AtDrive old.drives new.drives k Lasts
+  pub later : capped old.asks ≤ new.asks
   pub asks : AllTell new → CountsAsks old new
 
 -- each drive's count rose by so many
