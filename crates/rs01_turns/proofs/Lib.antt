@@ -1,0 +1,2 @@
+pub mod Unreads
+pub mod Turning

@@ -1,7 +1,17 @@
 //! Reading a medium by turns: laws.
 #![tactic(auto)]
 
-ghost use Rattle.rs01_turns.specs.Laws.{LeadsSame};
+ghost use Rattle.rs01_turns.specs.Laws.{LeadsSame, RestOfDone, RestOfNext};
+
+/// The rest of the moment after the next ask is the rest of the one before.
+pub fn rest_of_next()
+    ensures { RestOfNext }
+{}
+
+/// Where no sector is unread, the reading is at its end.
+pub fn rest_of_done()
+    ensures { RestOfDone }
+{}
 
 /// What is kept between two moments is kept along a chain of them.
 pub fn leads_are_kept()
