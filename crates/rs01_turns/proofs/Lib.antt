@@ -1,2 +1,3 @@
 pub mod Unreads
 pub mod Turning
+pub mod Leading

@@ -1,7 +1,16 @@
 //! Reading a medium by turns: laws.
 #![tactic(auto)]
 
-ghost use Rattle.rs01_turns.specs.Laws.{LeadsSame, RestOfDone, RestOfNext};
+ghost use Rattle.rs01_turns.specs.Laws.{
+  GiveLeads,
+  LeadsOn,
+  LeadsSame,
+  LookLeads,
+  ReadLeads,
+  ReadyOn,
+  RestOfDone,
+  RestOfNext,
+};
 
 /// The rest of the moment after the next ask is the rest of the one before.
 pub fn rest_of_next()
@@ -16,4 +25,13 @@ pub fn rest_of_done()
 /// What is kept between two moments is kept along a chain of them.
 pub fn leads_are_kept()
     ensures same { LeadsSame }
+    ensures on { LeadsOn }
+    ensures ready { ReadyOn }
+{}
+
+/// Giving a layer, looking at layers and reading back from the desk keep what a reader keeps.
+pub fn small_steps_lead()
+    ensures give { GiveLeads }
+    ensures look { LookLeads }
+    ensures read { ReadLeads }
 {}
