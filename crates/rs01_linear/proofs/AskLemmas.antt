@@ -40,7 +40,7 @@ asked_by view s tries None is later =
 asked_by view s tries (Some block) is later =
     rw is (length_push view.asked s)
 
-asked_more : (view : DriveView) (s tries : ℕ) → length (try_drive view s tries).view.asked ≡ length view.asked + (try_drive view s tries).count
+pub asked_more : (view : DriveView) (s tries : ℕ) → length (try_drive view s tries).view.asked ≡ length view.asked + (try_drive view s tries).count
 unfolding try_drive
 asked_more view s zero = omega arith
 asked_more view s (suc tries) =

@@ -1,4 +1,4 @@
-mod AskLemmas
+pub mod AskLemmas
 mod CountLemmas
 mod CourseLemmas
 mod EndLemmas
@@ -12,6 +12,7 @@ mod MediumLemmas
 mod MixedLemmas
 mod PassLemmas
 mod PrepareLemmas
+pub mod PutLemmas
 mod RunLemmas
 mod StandLemmas
 mod TellLemmas

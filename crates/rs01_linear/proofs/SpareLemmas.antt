@@ -4,9 +4,7 @@ use Rattle.std.specs.Prelude.{◌⊎◌, Bool, Result, Ok, Err, IsSomeAnd, Optio
 use Rattle.std.specs.Option.{unwrap_or}
 use Rattle.std.proofs.Math.ListN.{set}
 use Rattle.std.proofs.lemmas.Bool.{cases_lt}
-use Rattle.std.proofs.lemmas.List.{get_or-append_right, get_or-drop, get_or-take, get_or_append_left, length-append, length-drop, length-take, length-take-le}
-use Rattle.rs01_lists.specs.Bytes.{padded, zeros}
-use Rattle.rs01_lists.proofs.Padding.{length-zeros}
+use Rattle.std.proofs.lemmas.List.{length-take}
 use Rattle.rs01_outside.specs.Files.{Files, Writes, put_at}
 use Rattle.rs01_ecchead.specs.Erased.{Known, image_len, is_erased}
 use Rattle.rs01_linear.specs.Course.{fate_of}
@@ -19,50 +17,7 @@ use Rattle.rs01_linear.specs.declared.fate.Fate.{Fate}
 use Rattle.rs01_linear.specs.declared.fate.Fate.TheVariants.{Kept}
 use Rattle.rs01_linear.specs.declared.reading.Reading.{Reading}
 use Rattle.rs01_linear.specs.declared.refusal.ReadRefusal.{ReadRefusal}
-
--- a list that is padded
-length-padded : (w : ℕ) (xs : List ℕ) → length xs ≤ length (padded w xs)
-unfolding padded
-length-padded w xs = omega (arith, length-append xs (zeros (w - length xs)))
-
-padded_fills : (w : ℕ) (xs : List ℕ) → w ≤ length (padded w xs)
-unfolding padded
-padded_fills w xs = omega (arith, length-append xs (zeros (w - length xs)), length-zeros (w - length xs))
-
-padded_at : (w : ℕ) (xs : List ℕ) (k : ℕ) → k < length xs → get_or (padded w xs) k 0 ≡ get_or xs k 0
-unfolding padded
-padded_at w xs k low = get_or_append_left xs (zeros (w - length xs)) 0 k low
-
--- bytes over those of a list that is long enough
-length-over : (xs bytes : List ℕ) (at : ℕ) → at + length bytes ≤ length xs → length (take at xs ++ bytes ++ drop (at + length bytes) xs) ≡ length xs
-length-over xs bytes at fits =
-    omega (arith, fits, length-append (take at xs ++ bytes) (drop (at + length bytes) xs), length-append (take at xs) bytes, length-take-le at xs (omega (arith, fits)), length-drop (at + length bytes) xs)
-
-over_before : (xs bytes : List ℕ) (at k : ℕ) → at + length bytes ≤ length xs → k < at → get_or (take at xs ++ bytes ++ drop (at + length bytes) xs) k 0 ≡ get_or xs k 0
-over_before xs bytes at k fits low =
-    get_or_append_left (take at xs ++ bytes) (drop (at + length bytes) xs) 0 k (omega (arith, low, length-append (take at xs) bytes, length-take-le at xs (omega (arith, fits))))
-    ∙ get_or_append_left (take at xs) bytes 0 k (omega (arith, low, length-take-le at xs (omega (arith, fits))))
-    ∙ get_or-take at xs k 0 low
-
-over_behind : (xs bytes : List ℕ) (at k : ℕ) → at + length bytes ≤ length xs → at + length bytes ≤ k → get_or (take at xs ++ bytes ++ drop (at + length bytes) xs) k 0 ≡ get_or xs k 0
-over_behind xs bytes at k fits high =
-    get_or-append_right (take at xs ++ bytes) (drop (at + length bytes) xs) (at + length bytes) k 0
-    (omega (arith, length-append (take at xs) bytes, length-take-le at xs (omega (arith, fits)))) high
-    ∙ get_or-drop (at + length bytes) xs (k - (at + length bytes)) 0
-    ∙ ap (λ i. get_or xs i 0) (let e : at + length bytes + (k - (at + length bytes)) ≡ k = omega (arith, high) in e)
-
-put_longer : (file bytes : List ℕ) (at : ℕ) → length file ≤ length (put_at file at bytes)
-put_longer file bytes at =
-    omega (arith, length-over (padded (at + length bytes) file) bytes at (padded_fills (at + length bytes) file), length-padded (at + length bytes) file)
-
-put_same : (file bytes : List ℕ) (at k : ℕ) → k < length file → (k < at) ⊎ (at + length bytes ≤ k) → get_or (put_at file at bytes) k 0 ≡ get_or file k 0
-put_same file bytes at k low where_is =
-    let fits = padded_fills (at + length bytes) file in
-    ⊎_elim
-    (λ before. over_before (padded (at + length bytes) file) bytes at k fits before)
-    (λ behind. over_behind (padded (at + length bytes) file) bytes at k fits behind)
-    where_is
-    ∙ padded_at (at + length bytes) file k low
+use Rattle.rs01_linear.proofs.PutLemmas.{length-put_at, put_at-before, put_at-behind}
 
 -- a byte that is to stay doesn't stand in a run of sectors that weren't good
 apart : (known : Known) (y : List ℕ) (first past k n : ℕ) → first < past → n ≤ place known past - place known first
@@ -102,9 +57,12 @@ apart known y first past k n some few bad stay =
 spares_put : (known : Known) (y file bytes : List ℕ) (first past : ℕ) → first < past → length bytes ≤ place known past - place known first
     → ((i : ℕ) → first ≤ i → i < past → is_erased known y i ≡ true) → Spares known y file → Spares known y (put_at file (2048 * first) bytes)
 spares_put known y file bytes first past some few bad spares = record {
-  longer = omega (arith, spares.longer, put_longer file bytes (2048 * first));
+  longer = omega (arith, spares.longer, length-put_at file bytes (2048 * first));
   same = λ k low stay.
-      put_same file bytes (2048 * first) k (omega (arith, low, spares.longer)) (apart known y first past k (length bytes) some few bad stay)
+      ⊎_elim
+      (λ before. put_at-before file bytes (2048 * first) k before)
+      (λ behind. put_at-behind file bytes (2048 * first) k behind)
+      (apart known y first past k (length bytes) some few bad stay)
       ∙ spares.same k low stay;
 }
 
