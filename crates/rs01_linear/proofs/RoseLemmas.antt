@@ -27,14 +27,14 @@ use Rattle.rs01_linear.specs.declared.telling.Told.TheVariants as told
 use Rattle.rs01_linear.proofs.LastingLemmas.{drive_there, lasts_then, rack_lasts}
 
 -- how much a fate adds to the count
-abbrev adds : Fate → ℕ
+abbrev pub adds : Fate → ℕ
 adds fate = cond (is_told told.Unreadable fate) 1 0
 
 unread_cons : (fate : Fate) (fates : List Fate) → unread (fate ∷ fates) ≡ adds fate + unread fates
 unread_cons fate fates = sum_by-cons (λ f. cond (is_told told.Unreadable f) 1 0) fate fates
 
 -- a fate that is put in a place
-unread_set : (fates : List Fate) (s : ℕ) (fate : Fate) → unread (set fates s fate) ≤ unread fates + adds fate
+pub unread_set : (fates : List Fate) (s : ℕ) (fate : Fate) → unread (set fates s fate) ≤ unread fates + adds fate
 unread_set [] s fate = omega arith
 unread_set (x ∷ fates) zero fate = omega (arith, unread_cons x fates, unread_cons fate fates)
 unread_set (x ∷ fates) (suc s) fate =
@@ -56,7 +56,7 @@ keeps_same reading rack small = record {
       omega (arith, same);
 }
 
-rose_of : (kind : Asked) (old new : RackState) → RackLasts old new → (kind ≡ asked.Unreadable → AllRose 0 old new) → AllRoseBy (adds (fate_of kind)) old new
+pub rose_of : (kind : Asked) (old new : RackState) → RackLasts old new → (kind ≡ asked.Unreadable → AllRose 0 old new) → AllRoseBy (adds (fate_of kind)) old new
 rose_of asked.Read old new lasts cause k b a was is = omega (arith, (lasts.each k b a was is).later)
 rose_of asked.Altered old new lasts cause k b a was is = omega (arith, (lasts.each k b a was is).later)
 rose_of asked.Unreadable old new lasts cause k b a was is = cause refl k (omega arith) b a was is

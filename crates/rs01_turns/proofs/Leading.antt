@@ -226,7 +226,7 @@ same-drives f g rack fates = record {
       omega (arith, rose, same);
 }
 
-unread-same : (f g : Moment) (s : ℕ) (x : State) → is_unread x ≡ true → SameAt f g s → Became f g s x
+pub unread-same : (f g : Moment) (s : ℕ) (x : State) → is_unread x ≡ true → SameAt f g s → Became f g s x
 unread-same f g s Unread h same = same
 unread-same f g s Good h same = absurd (false≢true h)
 unread-same f g s Failed h same = absurd (false≢true h)
@@ -242,7 +242,7 @@ same-files f g set_ same =
       elsewhere = λ other d. ap (λ (x : Files). x other) same;
     }
 
-same-desk : (f g : Moment) → g.setting ≡ f.setting → g.desk ≡ f.desk → SameDesk f g
+pub same-desk : (f g : Moment) → g.setting ≡ f.setting → g.desk ≡ f.desk → SameDesk f g
 same-desk f g set_ same = record {
   tells = ap (λ (d : DeskState). d.tells) same;
   reads_rise = omega (arith, ap (λ (d : DeskState). d.read_faults) same);

@@ -1,3 +1,5 @@
 pub mod Unreads
 pub mod Turning
 pub mod Leading
+pub mod Placing
+pub mod Asking

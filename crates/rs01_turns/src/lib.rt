@@ -2,6 +2,7 @@
 #![tactic(auto)]
 
 ghost use Rattle.rs01_turns.specs.Laws.{
+  AskLeads,
   GiveLeads,
   LeadsOn,
   LeadsSame,
@@ -27,6 +28,11 @@ pub fn leads_are_kept()
     ensures same { LeadsSame }
     ensures on { LeadsOn }
     ensures ready { ReadyOn }
+{}
+
+/// Asking for the next sector, and writing what was read, keeps what a reader keeps.
+pub fn ask_leads()
+    ensures { AskLeads }
 {}
 
 /// Giving a layer, looking at layers and reading back from the desk keep what a reader keeps.
