@@ -3,3 +3,4 @@ pub mod Turning
 pub mod Leading
 pub mod Placing
 pub mod Asking
+pub mod Whole

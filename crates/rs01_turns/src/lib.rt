@@ -11,6 +11,7 @@ ghost use Rattle.rs01_turns.specs.Laws.{
   ReadyOn,
   RestOfDone,
   RestOfNext,
+  WholeReading,
 };
 
 /// The rest of the moment after the next ask is the rest of the one before.
@@ -40,4 +41,9 @@ pub fn small_steps_lead()
     ensures give { GiveLeads }
     ensures look { LookLeads }
     ensures read { ReadLeads }
+{}
+
+/// A reader that went on until no sector was unread has done the whole rest of the reading.
+pub fn whole_reading()
+    ensures { WholeReading }
 {}
