@@ -1,0 +1,5 @@
+pub mod ListLemmas
+pub mod SoundEvents
+pub mod ReachedEvents
+pub mod ReachedSounds
+pub mod RunLemmas
