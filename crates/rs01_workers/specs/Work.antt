@@ -1,0 +1,38 @@
+-- What comes of working the inputs that a filler gives.
+use Rattle.std.specs.Prelude.{ℕ, ◌≡◌, ◌≤◌, Bool, IsTrue, List, ◌++◌, All, length, map, not}
+use Rattle.rs01_layers.specs.declared.input.LayerInput.{LayerInput}
+use Rattle.rs01_layers.specs.declared.task.LayerOut.{LayerOut}
+
+-- the inputs of one window in the order in which they were given, what the task gave of each, and whether no more come
+pub record Worked : Type 0 where
+  pub inputs : List LayerInput
+  pub outs : List LayerOut
+  pub over : Bool
+
+-- as many answers as inputs, and at most 64
+pub record IsWindow (worked : Worked) : Type 0 where
+  pub paired : length worked.outs ≡ length worked.inputs
+  pub few : length worked.inputs ≤ 64
+
+-- the layers of inputs
+abbrev pub layers_in : List LayerInput → List ℕ
+layers_in inputs = map (λ input. input.layer) inputs
+
+-- a filler was asked until it had no input left or gave 64, and each input was worked: those that it gave since before,
+-- in their order, each of which it did give, and each with the task's value; where no more come it is done, and else it
+-- may go on
+pub record Works {F : Type 0} (gave : F → List ℕ) (fits : F → LayerInput → Type 0) (going done : F → Type 0) (value : LayerInput → LayerOut) (old new : F) (worked : Worked) : Type 0 where
+  pub grew : gave new ≡ gave old ++ layers_in worked.inputs
+  pub fit : All (fits new) worked.inputs
+  pub values : worked.outs ≡ map value worked.inputs
+  pub last : IsTrue worked.over → done new
+  pub full : IsTrue (not worked.over) → (length worked.inputs ≡ 64) × going new
+
+-- all that a filler gave since it gave nothing: these inputs, in their order, each of which it did give and each with the
+-- task's value; where no more come it is done, and else there are 64 and it may go on
+pub record Gathers {F : Type 0} (gave : F → List ℕ) (fits : F → LayerInput → Type 0) (going done : F → Type 0) (value : LayerInput → LayerOut) (filler : F) (worked : Worked) : Type 0 where
+  pub all : gave filler ≡ layers_in worked.inputs
+  pub fit : All (fits filler) worked.inputs
+  pub values : worked.outs ≡ map value worked.inputs
+  pub last : IsTrue worked.over → done filler
+  pub full : IsTrue (not worked.over) → (length worked.inputs ≡ 64) × going filler

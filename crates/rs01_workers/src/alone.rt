@@ -1,0 +1,76 @@
+//! Work on the caller's thread.
+ghost use Rattle.std.specs.Prelude.{◌≡◌, [], IfErr, IfOk, OnOk};
+ghost use Rattle.rs01_layers.specs.declared.input.LayerInput.{LayerInput};
+ghost use Rattle.rs01_workers.specs.Work.{Works};
+ghost use Rattle.rs01_workers.specs.declared.results.WindowStop.TheVariants.{Stopped};
+
+use crate::filler::Filler;
+use crate::results::{Results, WindowStop};
+use crate::windows::Windows;
+use rs01_layers::LayerTask;
+use std::alloc::Global;
+
+/// Asks a filler for inputs until it has none left or gave 64, and works each of them on the
+/// caller's thread before it asks for the next.
+///
+/// It stops where the filler does, and where memory runs out. Then nothing is kept of the inputs.
+pub fn work_one<T: LayerTask, F: Filler>(
+    alloc: Global,
+    task: &T,
+    fill: &mut F,
+) -> Result<Results, WindowStop<F::Stop>>
+    requires going { F.going fill.old }
+    requires fit { (f : F) (input : LayerInput) → F.fits f input → T.fit input }
+    ensures leads { F.leads fill.old fill.new }
+    ensures works { IfOk result (Works F.gave F.fits F.going F.done T.value fill.old fill.new) }
+    ensures halted { IfErr result (λ why. (stop : _) → why ≡ Stopped stop
+        → F.halted fill.new stop) }
+{
+    let mut inputs = Vec::new(alloc);
+    let mut outs = Vec::new(alloc);
+    let mut count = 0u32;
+    while count < 64 {
+        match fill.next(alloc) {
+            Ok(Some(input)) => {
+                let Ok(out) = task.work(alloc, &input) else {
+                    return Err(WindowStop::OutOfMemory);
+                };
+                let (Ok(()), Ok(())) = (inputs.push(input), outs.push(out)) else {
+                    return Err(WindowStop::OutOfMemory);
+                };
+                count += 1;
+            }
+            Ok(None) => return Ok(Results::of(inputs, outs, true)),
+            Err(stop) => return Err(WindowStop::Stopped(stop)),
+        }
+    }
+    Ok(Results::of(inputs, outs, false))
+}
+
+/// Works all layers, window by window, on the caller's thread.
+///
+/// It stops where the filler or the taking of a window's answers does, and where memory runs out.
+pub fn work_all_one<T: LayerTask, W: Windows<T>>(
+    alloc: Global,
+    task: &T,
+    windows: &mut W,
+) -> Result<(), WindowStop<W::Stop>>
+    requires going { W.going windows.old }
+    requires none { W.gave windows.old ≡ [] }
+    ensures leads { W.leads windows.old windows.new }
+    ensures finished { OnOk result (W.finished windows.new) }
+    ensures halted { IfErr result (λ why. (stop : _) → why ≡ Stopped stop
+        → W.halted windows.new stop) }
+{
+    loop {
+        let results = work_one(alloc, task, windows)?;
+        let over = results.over();
+        match windows.settle(alloc, results) {
+            Ok(()) => {}
+            Err(stop) => return Err(WindowStop::Stopped(stop)),
+        }
+        if over {
+            return Ok(());
+        }
+    }
+}

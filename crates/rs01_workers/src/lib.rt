@@ -1,0 +1,19 @@
+//! Working the layers that a filler gives, up to 64 at a time.
+//!
+//! A window is the inputs of one such call, and what is said of it doesn't depend on who works. Work on
+//! all layers of a whole goes window by window: `Windows` gives the inputs and takes the answers, and
+//! is written once for every way of working.
+#![tactic(auto)]
+
+mod alone;
+mod filler;
+mod results;
+mod windows;
+
+pub use alone::{work_all_one, work_one};
+pub use filler::Filler;
+pub use results::{Results, WindowStop};
+pub use windows::Windows;
+
+#[cfg(test)]
+mod tests;
