@@ -1,7 +1,9 @@
 -- What comes of working the inputs that a filler gives.
-use Rattle.std.specs.Prelude.{ℕ, ◌≡◌, ◌≤◌, Bool, IsTrue, List, ◌++◌, All, length, map, not}
+use Rattle.std.specs.Prelude.{ℕ, ◌≡◌, ◌≤◌, ◌⊎◌, Bool, IsTrue, List, ◌++◌, All, length, map, not}
 use Rattle.rs01_layers.specs.declared.input.LayerInput.{LayerInput}
 use Rattle.rs01_layers.specs.declared.task.LayerOut.{LayerOut}
+use Rattle.rs01_workers.specs.declared.results.WindowStop.{WindowStop}
+use Rattle.rs01_workers.specs.declared.results.WindowStop.TheVariants.{OutOfMemory, Stopped}
 
 -- the inputs of one window in the order in which they were given, what the task gave of each, and whether no more come
 pub record Worked : Type 0 where
@@ -36,3 +38,8 @@ pub record Gathers {F : Type 0} (gave : F → List ℕ) (fits : F → LayerInput
   pub values : worked.outs ≡ map value worked.inputs
   pub last : IsTrue worked.over → done filler
   pub full : IsTrue (not worked.over) → (length worked.inputs ≡ 64) × going filler
+
+-- how a filler stands whose inputs were given up: as its stop says, and where memory ran out it may be asked or is done
+abbrev pub Stands : {F S : Type 0} → (going done : F → Type 0) → (halted : F → S → Type 0) → F → WindowStop S → Type 0
+Stands going done halted filler (Stopped stop) = halted filler stop
+Stands going done halted filler OutOfMemory = going filler ⊎ done filler

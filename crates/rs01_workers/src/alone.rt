@@ -1,8 +1,7 @@
 //! Work on the caller's thread.
 ghost use Rattle.std.specs.Prelude.{◌≡◌, [], IfErr, IfOk, OnOk};
 ghost use Rattle.rs01_layers.specs.declared.input.LayerInput.{LayerInput};
-ghost use Rattle.rs01_workers.specs.Work.{Works};
-ghost use Rattle.rs01_workers.specs.declared.results.WindowStop.TheVariants.{Stopped};
+ghost use Rattle.rs01_workers.specs.Work.{Stands, Works};
 
 use crate::filler::Filler;
 use crate::results::{Results, WindowStop};
@@ -23,8 +22,7 @@ pub fn work_one<T: LayerTask, F: Filler>(
     requires fit { (f : F) (input : LayerInput) → F.fits f input → T.fit input }
     ensures leads { F.leads fill.old fill.new }
     ensures works { IfOk result (Works F.gave F.fits F.going F.done T.value fill.old fill.new) }
-    ensures halted { IfErr result (λ why. (stop : _) → why ≡ Stopped stop
-        → F.halted fill.new stop) }
+    ensures stands { IfErr result (Stands F.going F.done F.halted fill.new) }
 {
     let mut inputs = Vec::new(alloc);
     let mut outs = Vec::new(alloc);
@@ -59,8 +57,7 @@ pub fn work_all_one<T: LayerTask, W: Windows<T>>(
     requires none { W.gave windows.old ≡ [] }
     ensures leads { W.leads windows.old windows.new }
     ensures finished { OnOk result (W.finished windows.new) }
-    ensures halted { IfErr result (λ why. (stop : _) → why ≡ Stopped stop
-        → W.halted windows.new stop) }
+    ensures stands { IfErr result (Stands W.going W.done W.halted windows.new) }
 {
     loop {
         let results = work_one(alloc, task, windows)?;
