@@ -10,7 +10,7 @@ use Rattle.rs01_linear.specs.Course.{Manner, read_to, whole_reading}
 use Rattle.rs01_linear.specs.Left.{image_left, marked}
 use Rattle.rs01_linear.specs.Marking.{IsMixed}
 use Rattle.rs01_linear.specs.Medium.{Found, IsMedium, found, known_of}
-use Rattle.rs01_linear.specs.Outcome.{IsLeftAt, IsOnTheWay, IsReadInto, Reads}
+use Rattle.rs01_linear.specs.Outcome.{IsLeftAt, IsOnTheWay, IsReadInto, Reads, ReadsBy}
 use Rattle.rs01_linear.specs.Refusal.{IsOfMedium, IsOfReading, IsOfWork, writes_badly}
 use Rattle.rs01_linear.specs.Report.{report_of}
 use Rattle.rs01_linear.specs.declared.medium.Medium.{Medium}
@@ -69,21 +69,23 @@ is_found : (result : Result Found ReadRefusal) (P : Found → Type 0) → IsOkAn
 is_found (Ok f) P is = refl
 is_found (Err why) P is = absurd is
 
-unread : (given : Option (Option (List ℕ))) (manner : Manner) (old new : RackState) (before file : Option (List ℕ)) (result : Result ReadReport ReadRefusal) (why : ReadRefusal)
-    → result ≡ Err why → IsOfWork why → IsOkAnd (found given (views_of old)) (λ f. IsLeftAt f.known manner (unwrap_or before []) old new before file)
-    → Reads given manner old new before file result
-unread given manner old new before file result why is work left = rw is (record {
+-- a reading that ended with a fault or want of memory, in whatever order its sectors are asked for
+pub unread : (given : Option (Option (List ℕ))) (old new : RackState) (before file : Option (List ℕ)) (IsRead : ReadReport → Found → Type 0) (IsLeft : Found → Type 0)
+    (result : Result ReadReport ReadRefusal) (why : ReadRefusal)
+    → result ≡ Err why → IsOfWork why → IsOkAnd (found given (views_of old)) IsLeft → ReadsBy given old new before file IsRead IsLeft result
+unread given old new before file IsRead IsLeft result why is work left = rw is (record {
   refused = λ medium. absurd (work_only why work medium);
   untouched = λ medium. absurd (work_only why work medium);
-  write_fault_last = λ writes. is_found (found given (views_of old)) (λ f. IsLeftAt f.known manner (unwrap_or before []) old new before file) left;
+  write_fault_last = λ writes. is_found (found given (views_of old)) IsLeft left;
   left = inr left;
 })
 
 -- the medium wasn't opened
-pub ends_unopened : (given : Option (Option (List ℕ))) (manner : Manner) (old new : RackState) (before file : Option (List ℕ)) (result : Result ReadReport ReadRefusal) (why : ReadRefusal)
+pub ends_unopened : (given : Option (Option (List ℕ))) (old new : RackState) (before file : Option (List ℕ)) (IsRead : ReadReport → Found → Type 0) (IsLeft : Found → Type 0)
+    (result : Result ReadReport ReadRefusal) (why : ReadRefusal)
     → result ≡ Err why → IsOfReading why → (IsOfMedium why → found given (views_of old) ≡ Err why) → views_of new ≡ views_of old → file ≡ before
-    → Reads given manner old new before file result
-ends_unopened given manner old new before file result why is reading first same still = rw is (record {
+    → ReadsBy given old new before file IsRead IsLeft result
+ends_unopened given old new before file IsRead IsLeft result why is reading first same still = rw is (record {
   refused = first;
   untouched = λ medium. record { views_are = same; file_is = still };
   write_fault_last = λ writes. absurd (reads_only why reading writes);
@@ -108,7 +110,7 @@ pub ends_unprepared : (given : Option (Option (List ℕ))) (manner : Manner) (me
 ends_unprepared given manner medium old new before opened file result why is work was same still left =
     let here : IsLeftAt (known_of medium) manner (unwrap_or opened []) new new opened file =
     left_at (known_of medium) manner new opened file left in
-    unread given manner old new before file result why is work
+    unread given old new before file (λ told f. IsReadInto f.known manner (unwrap_or before []) old new file told) (λ f. IsLeftAt f.known manner (unwrap_or before []) old new before file) result why is work
     (ok_and (found given (views_of old)) (IsMedium given medium) (λ f. IsLeftAt f.known manner (unwrap_or before []) old new before file) was
     (λ f med. left_from (known_of medium) f.known manner opened before file new old new med.known_is same still here))
 
@@ -117,7 +119,7 @@ pub ends_left : (given : Option (Option (List ℕ))) (manner : Manner) (medium :
     → result ≡ Err why → IsOfWork why → IsOkAnd (found given (views_of old)) (IsMedium given medium) → views_of mid ≡ views_of old → opened ≡ before
     → IsLeftAt (known_of medium) manner (unwrap_or opened []) mid new opened file → Reads given manner old new before file result
 ends_left given manner medium old mid new before opened file result why is work was same still left =
-    unread given manner old new before file result why is work
+    unread given old new before file (λ told f. IsReadInto f.known manner (unwrap_or before []) old new file told) (λ f. IsLeftAt f.known manner (unwrap_or before []) old new before file) result why is work
     (ok_and (found given (views_of old)) (IsMedium given medium) (λ f. IsLeftAt f.known manner (unwrap_or before []) old new before file) was
     (λ f med. left_from (known_of medium) f.known manner opened before file mid old new med.known_is same still left))
 

@@ -1,21 +1,21 @@
 pub mod AskLemmas
 mod CountLemmas
-mod CourseLemmas
-mod EndLemmas
+pub mod CourseLemmas
+pub mod EndLemmas
 mod FlushLemmas
 mod JudgeLemmas
-mod LaidLemmas
+pub mod LaidLemmas
 pub mod LastingLemmas
-mod LinearLemmas
-mod MarkLemmas
+pub mod LinearLemmas
+pub mod MarkLemmas
 mod MediumLemmas
-mod MixedLemmas
+pub mod MixedLemmas
 mod PassLemmas
 mod PrepareLemmas
 pub mod PutLemmas
 mod RunLemmas
 mod StandLemmas
-mod TellLemmas
+pub mod TellLemmas
 pub mod RoseLemmas
 mod SpareLemmas
-mod StayLemmas
+pub mod StayLemmas

@@ -11,7 +11,7 @@ use Rattle.rs01_linear.specs.Course.{Manner, manner_of, read_to, whole_reading}
 use Rattle.rs01_linear.specs.Lasting.{AllRoseBy}
 use Rattle.rs01_linear.specs.Left.{image_left, marked}
 use Rattle.rs01_linear.specs.Marking.{IsMixed}
-use Rattle.rs01_linear.specs.Medium.{IsUnfit, file_given, found}
+use Rattle.rs01_linear.specs.Medium.{Found, IsUnfit, file_given, found}
 use Rattle.rs01_linear.specs.Refusal.{IsOfMedium, writes_badly}
 use Rattle.rs01_linear.specs.Report.{report_of}
 use Rattle.rs01_linear.specs.declared.refusal.ReadRefusal.{ReadRefusal}
@@ -46,17 +46,26 @@ pub record IsUntouched (old new : RackState) (before file : Option (List ℕ)) :
   pub file_is : file ≡ before
 
 -- a medium that is refused is refused as its file and its drives say, and nothing has changed; writing is tried only in
--- one that isn't; after a fault or want of memory nothing has changed or the reading is left at some sector
-pub record IsUnread (given : Option (Option (List ℕ))) (manner : Manner) (old new : RackState) (before file : Option (List ℕ)) (why : ReadRefusal) : Type 0 where
+-- one that isn't; after a fault or want of memory nothing has changed, or the reading of what was found is left somewhere
+pub record IsUnread (given : Option (Option (List ℕ))) (old new : RackState) (before file : Option (List ℕ)) (IsLeft : Found → Type 0) (why : ReadRefusal) : Type 0 where
   pub refused : IsOfMedium why → found given (views_of old) ≡ Err why
   pub untouched : IsOfMedium why → IsUntouched old new before file
   pub write_fault_last : IsTrue (writes_badly why) → IsOk (found given (views_of old))
-  pub left : IsUntouched old new before file ⊎ IsOkAnd (found given (views_of old)) (λ f. IsLeftAt f.known manner (unwrap_or before []) old new before file)
+  pub left : IsUntouched old new before file ⊎ IsOkAnd (found given (views_of old)) IsLeft
 
--- what a reading leaves and answers, where the desk and the drives tell
+-- what reading a medium leaves and answers, in whatever order its sectors are asked for: it was read so, or it was left so
+abbrev pub ReadsBy :
+    Option (Option (List ℕ)) → (old new : RackState) → (before file : Option (List ℕ)) → (IsRead : ReadReport → Found → Type 0) → (IsLeft : Found → Type 0)
+    → Result ReadReport ReadRefusal → Type 0
+ReadsBy given old new before file IsRead IsLeft (Ok told) = IsOkAnd (found given (views_of old)) (IsRead told)
+ReadsBy given old new before file IsRead IsLeft (Err why) = IsUnread given old new before file IsLeft why
+
+-- what a reading in rising order leaves and answers, where the desk and the drives tell
 abbrev pub Reads : Option (Option (List ℕ)) → Manner → (old new : RackState) → (before file : Option (List ℕ)) → Result ReadReport ReadRefusal → Type 0
-Reads given manner old new before file (Ok told) = IsOkAnd (found given (views_of old)) (λ f. IsReadInto f.known manner (unwrap_or before []) old new file told)
-Reads given manner old new before file (Err why) = IsUnread given manner old new before file why
+Reads given manner old new before file result =
+    ReadsBy given old new before file
+    (λ told f. IsReadInto f.known manner (unwrap_or before []) old new file told)
+    (λ f. IsLeftAt f.known manner (unwrap_or before []) old new before file) result
 
 -- the same of a reading into the named image, and only there where both tell
 abbrev pub TellsReading : (desk desk' : DeskState) → Option (Bor (List ℕ)) → (jump tries : ℕ) → List ℕ → Result ReadReport ReadRefusal → (old new : RackState) → Type 0

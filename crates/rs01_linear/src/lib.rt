@@ -17,7 +17,9 @@ mod tests;
 
 pub use asking::{Asked, ask_sector};
 pub use fate::Fate;
-pub use linear::read_linear;
+pub use linear::{asked_since, read_linear};
 pub use medium::Medium;
 pub use opening::open_medium;
+pub use prepared::{Prepared, prepare};
 pub use refusal::ReadRefusal;
+pub use telling::report;

@@ -21,8 +21,8 @@ use rs01_rack::Rack;
 use rs01_report::ReadReport;
 use std::alloc::Global;
 
-// How many asks were counted since there were so many, up to the last value of a u64.
-fn asked_since(before: u128, rack: &Rack) -> u64
+/// How many asks a rack counted since there were `before`, up to the last value of a u64.
+pub fn asked_since(before: u128, rack: &Rack) -> u64
     ensures { let now = (seen_by ⟦<dyn Drive as Drive>⟧ rack.now).asks in
         result ≡ min (now - before) (2 ^ 64 - 1) }
 {

@@ -12,10 +12,12 @@ use crate::refusal::ReadRefusal;
 use rs01_outside::{Desk, Failed};
 use std::alloc::Global;
 
-// How many bytes the image file had, and what is known of each sector.
+/// An image file that is ready to be read into.
 #[derive(Drop)]
 pub struct Prepared {
+    /// How many bytes it had.
     pub size: u64,
+    /// What is known of each sector: that the file had it good, or that it wasn't asked for yet.
     pub fates: Vec<Fate>,
 }
 
@@ -38,7 +40,8 @@ fn start_image<D: Desk>(desk: &mut D, name: &str) -> Result<u64, ReadRefusal>
     }
 }
 
-// Gets the image file ready: judges its sectors, and marks those that aren't good.
+/// Gets the image file of a medium ready: makes it where it isn't there, judges its sectors, and puts the marker of each
+/// that isn't good, in long runs. After a fault or want of memory some first bytes are those of the marked file.
 pub fn prepare<D: Desk>(
     alloc: Global,
     desk: &mut D,

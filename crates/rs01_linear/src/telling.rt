@@ -64,7 +64,8 @@ fn number_told(fates: &[Fate], kind: Told) -> u32
     number
 }
 
-// What is told, where so many asks were counted and so many bytes stood behind the image.
+/// What is told of a medium of which this became of each sector, where no sector was restored, so many asks were counted
+/// and so many bytes stood behind the image.
 pub fn report(
     alloc: Global,
     fates: &[Fate],

@@ -53,7 +53,7 @@ pub returns-in_err-medium-clause-told : goal.returns-in_err-medium-clause-told
 returns-in_err-medium-clause-told g c = λ t tell.
     let p = err_from_is_err_and c.from_residual.result c.from_residual.ensures.1 in
     let still = ap (λ (f : Files). f c.args.image.now) (c.in_err-medium.ensures.reads.unchanged t) in
-    ends_unopened _ _ _ _ _ _ c.from_residual.result _ (p.1 ∙ ap Err p.2) c.in_err-medium.ensures.causes
+    ends_unopened _ _ _ _ _ _ _ c.from_residual.result _ (p.1 ∙ ap Err p.2) c.in_err-medium.ensures.causes
     (c.in_err-medium.ensures.told t tell) (c.in_err-medium.ensures.asked.same tell) still
 
 pub returns-in_err-medium-clause-stays : goal.returns-in_err-medium-clause-stays
