@@ -1,6 +1,7 @@
 //! A file or a block device of the system as a drive.
-ghost use Rattle.std.specs.Prelude.{◌≡◌, ◌+◌, ◌-◌, ◌*◌, ◌/◌, ◌^◌, ◌<◌, min, OnOk, is_err};
+ghost use Rattle.std.specs.Prelude.{◌≡◌, ◌*◌, ◌<◌, IfOk, OnOk, is_err};
 ghost use Rattle.rs01_host.specs.Counting.{Counts};
+ghost use Rattle.rs01_host.specs.Reaching.{HasSectors, Reaches, sectors_in};
 ghost use Rattle.rs01_host.specs.Untold.{untold_drive};
 
 use crate::fault_count::FaultCount;
@@ -11,7 +12,7 @@ use std::rt::Files;
 
 // The number of sectors of so many bytes, up to the last value of a u32.
 fn sector_count(len: u64) -> u32
-    ensures { result ≡ min ((len + 2047) / 2048) (2 ^ 32 - 1) }
+    ensures { result ≡ sectors_in len }
 {
     len.div_ceil(2048).min(u32::MAX as u64) as u32
 }
@@ -80,7 +81,10 @@ fn read_sector(
 impl<R: Files<File = File> + Drop> Drive for FileDrive<R> {
     ghost state = { λ drive. untold_drive drive.faults.count };
 
-    fn sectors(&mut self) -> Result<u32, Failed> {
+    fn sectors(&mut self) -> Result<u32, Failed>
+        ensures number { IfOk result (λ number. HasSectors number self.new.opened) }
+        ensures counted { Counts self.old.faults self.new.faults (is_err result) }
+    {
         self.open()?;
         match &self.opened {
             Some(opened) => Ok(sector_count(opened.len)),
@@ -88,7 +92,10 @@ impl<R: Files<File = File> + Drop> Drive for FileDrive<R> {
         }
     }
 
-    fn read(&mut self, sector: u32, into: &mut [u8; 2048]) -> Result<(), Failed> {
+    fn read(&mut self, sector: u32, into: &mut [u8; 2048]) -> Result<(), Failed>
+        ensures there { OnOk result (Reaches sector self.new.opened) }
+        ensures counted { Counts self.old.faults self.new.faults (is_err result) }
+    {
         self.open()?;
         match &self.opened {
             Some(opened) => read_sector(opened, sector, into, &mut self.faults),
