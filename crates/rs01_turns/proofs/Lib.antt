@@ -4,3 +4,4 @@ pub mod Leading
 pub mod Placing
 pub mod Asking
 pub mod Whole
+mod Rows
