@@ -5,3 +5,4 @@ pub mod Placing
 pub mod Asking
 pub mod Whole
 mod Rows
+pub mod Ending

@@ -144,14 +144,14 @@ asking-more terms (suc n) now s few =
 nothing-some : 1 ≤ 0 → ⊥
 nothing-some some = omega (arith, some)
 
-asking-here : (terms : Terms) (n : ℕ) (now : Reading) (s : ℕ) → 1 ≤ n → next_of now ≡ Some s → asking_within terms n now s ≡ Some (asking_at terms now s)
+pub asking-here : (terms : Terms) (n : ℕ) (now : Reading) (s : ℕ) → 1 ≤ n → next_of now ≡ Some s → asking_within terms n now s ≡ Some (asking_at terms now s)
 unfolding asking_within
 asking-here terms zero now s some h = absurd (nothing-some some)
 asking-here terms (suc n) now s some h =
     ap (λ (o : Option ℕ). if is_at o s then Some (asking_at terms now s) else asking_within terms n (step terms now) s) h
     ∙ cond-true (eqb s s) (Some (asking_at terms now s)) (asking_within terms n (step terms now) s) (eq-eqb s s refl)
 
-asking-later : (terms : Terms) (n : ℕ) (now : Reading) (s k : ℕ) → next_of now ≡ Some s → s ≢ k → asking_within terms (suc n) now k ≡ asking_within terms n (after_ask terms now s) k
+pub asking-later : (terms : Terms) (n : ℕ) (now : Reading) (s k : ℕ) → next_of now ≡ Some s → s ≢ k → asking_within terms (suc n) now k ≡ asking_within terms n (after_ask terms now s) k
 unfolding asking_within
 asking-later terms n now s k h d =
     ap (λ (o : Option ℕ). if is_at o k then Some (asking_at terms now k) else asking_within terms n (step terms now) k) h

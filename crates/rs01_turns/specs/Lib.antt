@@ -2,3 +2,4 @@ pub mod Turns
 pub mod Moments
 pub mod Leads
 pub mod Laws
+pub mod Ends

@@ -1,6 +1,7 @@
 //! Reading a medium by turns: laws.
 #![tactic(auto)]
 
+ghost use Rattle.rs01_turns.specs.Ends.{OthersAreLeft, UnreadEnds};
 ghost use Rattle.rs01_turns.specs.Laws.{
   AskLeads,
   GiveLeads,
@@ -46,4 +47,11 @@ pub fn small_steps_lead()
 /// A reader that went on until no sector was unread has done the whole rest of the reading.
 pub fn whole_reading()
     ensures { WholeReading }
+{}
+
+/// At the end a sector that was unread is what the answer for it made of it, or spared where it
+/// wasn't asked for, and one that wasn't unread is as it was and wasn't asked for.
+pub fn each_sector_ends()
+    ensures unread { UnreadEnds }
+    ensures others { OthersAreLeft }
 {}
