@@ -68,17 +68,17 @@ by-not-unread Altered = refl
 
 -- within some asks
 
-record LeftWithin (terms : Terms) (n : ℕ) (now : Reading) (s : ℕ) : Type 0 where
-  unasked : asking_within terms n now s ≡ None
-  same : state_of (iterate (step terms) n now).states s ≡ state_of now.states s
+pub record LeftWithin (terms : Terms) (n : ℕ) (now : Reading) (s : ℕ) : Type 0 where
+  pub unasked : asking_within terms n now s ≡ None
+  pub same : state_of (iterate (step terms) n now).states s ≡ state_of now.states s
 
-none-within : (terms : Terms) (n : ℕ) (now : Reading) (s : ℕ) → next_of now ≡ None → asking_within terms (suc n) now s ≡ asking_within terms n now s
+pub none-within : (terms : Terms) (n : ℕ) (now : Reading) (s : ℕ) → next_of now ≡ None → asking_within terms (suc n) now s ≡ asking_within terms n now s
 unfolding asking_within
 none-within terms n now s h =
     ap (λ (o : Option ℕ). if is_at o s then Some (asking_at terms now s) else asking_within terms n (step terms now) s) h
     ∙ ap (λ (r : Reading). asking_within terms n r s) (none-still terms now h)
 
-left-within : (terms : Terms) (n : ℕ) (now : Reading) (s : ℕ) → is_unread (state_of now.states s) ≡ false → LeftWithin terms n now s
+pub left-within : (terms : Terms) (n : ℕ) (now : Reading) (s : ℕ) → is_unread (state_of now.states s) ≡ false → LeftWithin terms n now s
 unfolding asking_within
 left-within terms zero now s not_ = record { unasked = refl; same = refl }
 left-within terms (suc n) now s not_ = ⊎_elim

@@ -6,3 +6,4 @@ pub mod Asking
 pub mod Whole
 mod Rows
 pub mod Ending
+pub mod Times

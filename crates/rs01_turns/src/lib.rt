@@ -1,7 +1,7 @@
 //! Reading a medium by turns: laws.
 #![tactic(auto)]
 
-ghost use Rattle.rs01_turns.specs.Ends.{OthersAreLeft, UnreadEnds};
+ghost use Rattle.rs01_turns.specs.Ends.{AsksFew, EndsAll, OthersAreLeft, UnreadEnds};
 ghost use Rattle.rs01_turns.specs.Laws.{
   AskLeads,
   GiveLeads,
@@ -54,4 +54,10 @@ pub fn whole_reading()
 pub fn each_sector_ends()
     ensures unread { UnreadEnds }
     ensures others { OthersAreLeft }
+    ensures all { EndsAll }
+{}
+
+/// A drive is asked for more sectors until the end, and for each so many times at most as is set.
+pub fn asks_are_few()
+    ensures { AsksFew }
 {}
