@@ -41,7 +41,7 @@ spared-still state.Good enough h = absurd (false≢true h)
 spared-still state.Failed enough h = absurd (false≢true h)
 spared-still state.Spared enough h = absurd (false≢true h)
 
-settled-still : (shape : Option Shape) (xs : List State) (k : ℕ) → IsUnread xs k → IsStill (state_of (settled shape xs) k)
+pub settled-still : (shape : Option Shape) (xs : List State) (k : ℕ) → IsUnread xs k → IsStill (state_of (settled shape xs) k)
 settled-still None xs k was = inl was
 settled-still (Some shape) xs k was =
     let layers = layers_of shape.sectors shape.parity in

@@ -7,3 +7,4 @@ pub mod Whole
 mod Rows
 pub mod Ending
 pub mod Times
+pub mod Layering

@@ -3,3 +3,4 @@ pub mod Moments
 pub mod Leads
 pub mod Laws
 pub mod Ends
+pub mod Layers

@@ -2,6 +2,16 @@
 #![tactic(auto)]
 
 ghost use Rattle.rs01_turns.specs.Ends.{AsksFew, EndsAll, OthersAreLeft, UnreadEnds};
+ghost use Rattle.rs01_turns.specs.Layers.{
+  AskIsSparing,
+  BeyondAreAsked,
+  EndIsSparing,
+  SettledAreLeft,
+  StartIsSparing,
+  UnaskedLieWithin,
+  WithinGoesOn,
+  WithinToTheEnd,
+};
 ghost use Rattle.rs01_turns.specs.Laws.{
   AskLeads,
   GiveLeads,
@@ -60,4 +70,24 @@ pub fn each_sector_ends()
 /// A drive is asked for more sectors until the end, and for each so many times at most as is set.
 pub fn asks_are_few()
     ensures { AsksFew }
+{}
+
+/// From the start to the end, what is spared is exactly what needn't be read.
+pub fn sparing_is_kept()
+    ensures start { StartIsSparing }
+    ensures ask { AskIsSparing }
+    ensures end { EndIsSparing }
+{}
+
+/// A layer within its bound stays so, and none of its sectors is asked for from then on.
+pub fn settled_layers_are_left()
+    ensures end { WithinToTheEnd }
+    ensures on { WithinGoesOn }
+    ensures left { SettledAreLeft }
+{}
+
+/// Only in layers within their bound there are sectors that weren't good and are never asked for.
+pub fn only_the_needless_are_unasked()
+    ensures within { UnaskedLieWithin }
+    ensures beyond { BeyondAreAsked }
 {}

@@ -1,0 +1,9 @@
+use Rattle.rs01_turns.proofs.Layering.{settled-are-left, within-goes-on, within-to-the-end}
+use Rattle.rs01_turns.proofs.settled_layers_are_left.Goals as goal
+
+pub returns : goal.returns
+returns c = record {
+  end = within-to-the-end;
+  on = within-goes-on;
+  left = settled-are-left;
+}
