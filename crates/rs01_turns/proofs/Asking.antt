@@ -1,6 +1,6 @@
 -- One ask keeps what a reader keeps.
-use Rattle.std.proofs.Common.{inl, inr, get_or, ◌≡◌, ℕ, zero, suc, ◌+◌, ◌-◌, ◌*◌, ◌<◌, ◌≤◌, ◌%◌, ⊎_elim, List, [], ◌∷◌, length, take, drop, refl, sym, ap, subst, ◌∙◌, arith}
-use Rattle.std.specs.Prelude.{◌⊎◌, ◌≢◌, Bool, true, false, IsTrue, IsSomeAnd, is_err, Option, Some, None, Result, Ok, Err, if◌then◌else◌, slice_get}
+use Rattle.std.proofs.Common.{inl, inr, ◌≡◌, ℕ, zero, suc, ◌+◌, ◌-◌, ◌*◌, ◌<◌, ◌≤◌, ◌%◌, ⊎_elim, List, [], ◌∷◌, length, take, refl, sym, ap, subst, ◌∙◌, arith}
+use Rattle.std.specs.Prelude.{◌≢◌, Bool, true, false, IsTrue, IsSomeAnd, is_err, Option, Some, None, Result, Ok, Err, if◌then◌else◌}
 use Rattle.std.specs.Fn.{iterate}
 use Rattle.std.proofs.Math.ListN.{set}
 use Rattle.std.proofs.lemmas.List.{append-nil, get_or-set_same, get_or-set_other, length-set, length-take, length-take-le}
@@ -20,26 +20,25 @@ use Rattle.rs01_ecchead.specs.Erased.{Known, image_len}
 use Rattle.rs01_states.specs.declared.state.State.{State}
 use Rattle.rs01_states.specs.declared.state.State.TheVariants as state
 use Rattle.rs01_states.specs.Sparing.{is_unread, settled, spared_where, state_of, within_bound}
-use Rattle.rs01_states.proofs.SparedLemmas.{others-stay}
-use Rattle.rs01_states.proofs.StateLemmas.{set-elsewhere, set-here, spared-at, unread-inside}
+use Rattle.rs01_states.proofs.StateLemmas.{set-elsewhere, spared-at, unread-inside}
 use Rattle.rs01_linear.specs.Asking.{Asking, Asks, ask_drives, after_vain, is_good, kind_of}
 use Rattle.rs01_linear.specs.Course.{fate_of}
 use Rattle.rs01_linear.specs.Lasting.{asks_in}
-use Rattle.rs01_linear.specs.Report.{unread}
 use Rattle.rs01_linear.specs.declared.asking.Asked.{Asked}
 use Rattle.rs01_linear.specs.declared.asking.Asked.TheVariants.{Altered, Read, Unreadable}
-use Rattle.rs01_linear.specs.declared.fate.Fate.{Fate}
 use Rattle.rs01_linear.specs.declared.fate.Fate.TheVariants as fate
 use Rattle.rs01_linear.proofs.AskLemmas.{asked_more}
 use Rattle.rs01_linear.proofs.RoseLemmas.{rose_of, unread_set}
 use Rattle.rs01_turns.specs.Turns.{Reading, Terms, after_ask, after_next, asking_at, asking_for, next_of, next_sector, place_after, rest, states_after, step}
-use Rattle.rs01_turns.specs.Moments.{IsReady, Moment, Setting, asking_of, asks_at_end, bytes_at, fate_at, image_at, known_at, length_at, reading_at, rest_of, terms_of, unread_at}
-use Rattle.rs01_turns.specs.Leads.{Became, IsBlend, IsWritten, Leads, SameAt, SameDesk, SameDrives, SameFiles, SameRest}
-use Rattle.rs01_turns.specs.Laws.{AskedFor, AskLeads, KeepsRest, Puts, PutsIfRead}
+use Rattle.rs01_turns.specs.Ends.{state_by}
+use Rattle.rs01_turns.specs.Moments.{IsReady, Moment, Setting, asking_of, bytes_at, fate_at, image_at, known_at, length_at, reading_at, rest_of, terms_of}
+use Rattle.rs01_turns.specs.Leads.{Became, IsBlend, IsWritten, Leads, SameAt, SameDesk, SameDrives, SameRest}
+use Rattle.rs01_turns.specs.Laws.{AskLeads, KeepsRest, Puts, PutsIfRead}
 use Rattle.rs01_turns.proofs.Unreads.{after-marks, unread-other}
-use Rattle.rs01_turns.proofs.Turning.{cases-next, next-unread, none-still, rest-of-next, some-steps}
+use Rattle.rs01_turns.proofs.Turning.{next-unread, rest-of-next}
+use Rattle.rs01_turns.proofs.Ending.{state-here}
 use Rattle.rs01_turns.proofs.Leading.{same-desk, unread-same}
-use Rattle.rs01_turns.proofs.Placing.{IsPlaced, LiesOver, WroteOver, drop-outside, part-blend, part-here, part-outside, placed, wrote-over}
+use Rattle.rs01_turns.proofs.Placing.{IsPlaced, WroteOver, drop-outside, part-blend, part-here, part-outside, placed, wrote-over}
 
 -- the drives' lists of asks never get shorter
 
@@ -150,14 +149,14 @@ here-written : (f g : Moment) (s : ℕ) (block : List ℕ) (written : Result Uni
 here-written f g s block (Ok u) puts long fits setting wrote =
     let all = wrote.all u refl in
     inl (
-      ap (λ (x : Setting). part (image_at g) (2048 * s) (length_of x.terms.known.sectors x.terms.known.last_bytes s)) setting
-      ∙ part-here (image_at f) (image_at g) (2048 * s) (take wrote.kept (take (length_at f s) block)) (length_at f s) wrote.over (ap length all ∙ long) fits ∙ all
+    ap (λ (x : Setting). part (image_at g) (2048 * s) (length_of x.terms.known.sectors x.terms.known.last_bytes s)) setting
+    ∙ part-here (image_at f) (image_at g) (2048 * s) (take wrote.kept (take (length_at f s) block)) (length_at f s) wrote.over (ap length all ∙ long) fits ∙ all
     )
 here-written f g s block (Err e) puts long fits setting wrote =
     inr (
       puts.only.rose refl,
       subst (λ (x : Setting). IsBlend (part (image_at g) (2048 * s) (length_of x.terms.known.sectors x.terms.known.last_bytes s)) (bytes_at f s) (take (length_at f s) block)) (sym setting)
-      (part-blend (image_at f) (image_at g) (2048 * s) (take (length_at f s) block) wrote.kept (length_at f s) wrote.over (omega (arith, long))),
+          (part-blend (image_at f) (image_at g) (2048 * s) (take (length_at f s) block) wrote.kept (length_at f s) wrote.over (omega (arith, long))),
     )
 
 wrote-at : (f g : Moment) (s : ℕ) (block : List ℕ) (written : Result Unit Failed) → 2048 * s + length (take (length_at f s) block) ≤ length (image_at f) → g.setting ≡ f.setting → IsTrue f.desk.tells
@@ -211,19 +210,6 @@ desk-after f g s block Altered ready there len setting puts = record {
   others = λ k d t. desk-kept f g s block setting puts k;
   here = λ t. desk-kept f g s block setting puts s;
 }
-
--- what an answer makes of its sector
-
-abbrev state_by : Asked → State
-state_by Read = state.Good
-state_by Unreadable = state.Failed
-state_by Altered = state.Failed
-
-state-here : (shape : Option Shape) (xs : List State) (s : ℕ) (asked : Asked) → s < length xs → state_of (states_after shape xs s asked) s ≡ state_by asked
-unfolding states_after
-state-here shape xs s Read there = others-stay shape (set xs s state.Good) s (ap is_unread (set-here xs s state.Good there)) ∙ set-here xs s state.Good there
-state-here shape xs s Unreadable there = set-here xs s state.Failed there
-state-here shape xs s Altered there = set-here xs s state.Failed there
 
 -- what it makes of another sector that is unread
 
@@ -296,7 +282,7 @@ lead-after f s block asked rack desk ready next asks cause len puts =
       stays = λ k not_. record { state_same = m.stays k not_; same = other k (unread-other f.states s k was not_) };
       became = λ k unread. ⊎_elim
           (λ (e : k ≡ s). subst (λ (j : ℕ). Became f g j (state_of (states_after shape f.states s asked) j)) (sym e)
-          (subst (λ (x : State). Became f g s x) (sym (state-here shape f.states s asked there))
+          (subst (λ (x : State). Became f g s x) (sym (state-here shape f.states s asked was))
           (here-became f g s block asked (get_or-set_same f.fates s (fate_of asked) fate.LeftOut (omega (arith, there, ready.all, ready.fated)))
           (λ t. (asks.told t).answer) (λ t. (asks.told t).block_is) law.asking_here put.here)))
           (λ (d : k ≢ s). other-became f g shape f.states s k asked d unread (other k d))

@@ -1,9 +1,9 @@
 -- What each sector comes to at the end.
-use Rattle.std.proofs.Common.{inl, inr, ◌≡◌, ℕ, zero, suc, ◌+◌, ◌%◌, ◌≤◌, ⊎_elim, List, length, refl, sym, ap, subst, ◌∙◌, arith, eqb}
+use Rattle.std.proofs.Common.{inl, inr, ◌≡◌, ℕ, zero, suc, ◌%◌, ◌≤◌, ⊎_elim, List, length, refl, sym, ap, subst, ◌∙◌, arith}
 use Rattle.std.specs.Prelude.{◌⊎◌, ◌≢◌, Bool, true, false, if◌then◌else◌, Option, Some, None}
 use Rattle.std.specs.Fn.{iterate}
 use Rattle.std.proofs.Math.ListN.{set}
-use Rattle.std.proofs.lemmas.Bool.{cases_eq, false≢true, cond-true, cond-false, eq-eqb, ne_eqb}
+use Rattle.std.proofs.lemmas.Bool.{cases_eq, false≢true}
 use Rattle.rs01_layers.specs.Layout.{layers_of}
 use Rattle.rs01_layers.specs.declared.shape.Shape.{Shape}
 use Rattle.rs01_states.specs.declared.state.State.{State}
@@ -14,10 +14,10 @@ use Rattle.rs01_states.proofs.StateLemmas.{set-elsewhere, set-here, spared-at, u
 use Rattle.rs01_linear.specs.Asking.{Asking, kind_of}
 use Rattle.rs01_linear.specs.declared.asking.Asked.{Asked}
 use Rattle.rs01_linear.specs.declared.asking.Asked.TheVariants.{Altered, Read, Unreadable}
-use Rattle.rs01_turns.specs.Turns.{NoneUnread, Reading, Terms, after_ask, asking_at, asking_for, asking_within, is_at, next_of, rest, states_after, step}
-use Rattle.rs01_turns.specs.Ends.{ComesTo, EndsAll, IsLeft, OthersAreLeft, UnreadEnds, state_by}
+use Rattle.rs01_turns.specs.Turns.{Reading, Terms, after_ask, asking_at, asking_for, asking_within, is_at, next_of, rest, states_after, step}
+use Rattle.rs01_turns.specs.Ends.{IsStateBy, OthersAreLeft, UnreadEnds, state_by}
 use Rattle.rs01_turns.proofs.Unreads.{unread-other, unreads, unreads-few}
-use Rattle.rs01_turns.proofs.Turning.{ask-less, ask-marks, asking-here, asking-later, cases-next, next-none, next-unread, none-next, none-still, some-steps, step-less}
+use Rattle.rs01_turns.proofs.Turning.{ask-less, ask-marks, asking-here, asking-later, cases-next, next-none, next-unread, none-next, none-still, some-steps}
 
 -- what an answer makes of the states
 
@@ -109,7 +109,7 @@ others-are-left terms now s not_ =
 nothing-unread : (now : Reading) (s : ℕ) → next_of now ≡ None → IsUnread now.states s → ⊥
 nothing-unread now s h was = false≢true (sym (next-none now.states now.place h s) ∙ was)
 
-unread-within : (terms : Terms) (n : ℕ) (now : Reading) (s : ℕ) → unreads now.states ≤ n → IsUnread now.states s → ComesTo (asking_within terms n now s) (state_of (iterate (step terms) n now).states s)
+unread-within : (terms : Terms) (n : ℕ) (now : Reading) (s : ℕ) → unreads now.states ≤ n → IsUnread now.states s → IsStateBy (asking_within terms n now s) (state_of (iterate (step terms) n now).states s)
 unread-within terms zero now s few was = absurd (nothing-unread now s (none-next terms now few) was)
 unread-within terms (suc n) now s few was = ⊎_elim
     (λ h. absurd (nothing-unread now s h was))
@@ -118,19 +118,19 @@ unread-within terms (suc n) now s few was = ⊎_elim
     let next = after_ask terms now k in
     let end : state_of (iterate (step terms) n next).states s ≡ state_of (iterate (step terms) (suc n) now).states s =
     ap (λ (r : Reading). state_of (iterate (step terms) n r).states s) (sym (some-steps terms now k h.1)) in
-    subst (λ (x : State). ComesTo (asking_within terms (suc n) now s) x) end (⊎_elim
+    subst (λ (x : State). IsStateBy (asking_within terms (suc n) now s) x) end (⊎_elim
     (λ (e : k ≡ s).
     let here : next_of now ≡ Some s = h.1 ∙ ap (λ (j : ℕ). Some j) e in
     let is : state_of next.states s ≡ state_by (kind_of (asking_at terms now s)) =
     ap (λ (j : ℕ). state_of (after_ask terms now j).states s) e ∙ ask-here terms now s was in
-    subst (λ (o : Option Asking). ComesTo o (state_of (iterate (step terms) n next).states s)) (sym (asking-here terms (suc n) now s (omega arith) here))
+    subst (λ (o : Option Asking). IsStateBy o (state_of (iterate (step terms) n next).states s)) (sym (asking-here terms (suc n) now s (omega arith) here))
     ((left-within terms n next s (ap is_unread is ∙ by-not-unread (kind_of (asking_at terms now s)))).same ∙ is))
     (λ (d : k ≢ s).
-    subst (λ (o : Option Asking). ComesTo o (state_of (iterate (step terms) n next).states s)) (sym (asking-later terms n now k s h.1 d)) (⊎_elim
+    subst (λ (o : Option Asking). IsStateBy o (state_of (iterate (step terms) n next).states s)) (sym (asking-later terms n now k s h.1 d)) (⊎_elim
     (λ unread. unread-within terms n next s (omega (arith, few, ask-less terms now k h.1)) unread)
     (λ spared.
     let left = left-within terms n next s (ap is_unread spared) in
-    subst (λ (o : Option Asking). ComesTo o (state_of (iterate (step terms) n next).states s)) (sym left.unasked) (left.same ∙ spared))
+    subst (λ (o : Option Asking). IsStateBy o (state_of (iterate (step terms) n next).states s)) (sym left.unasked) (left.same ∙ spared))
     (ask-still terms now k s (λ e. d (sym e)) was)))
     (cases_eq k s)))
     (cases-next (next_of now))

@@ -1,5 +1,5 @@
 -- Layers that come within their bound stay so, and exactly the needless sectors are spared.
-use Rattle.std.proofs.Common.{inl, inr, ◌≡◌, ℕ, zero, suc, ◌+◌, ◌%◌, ◌<◌, ◌≤◌, ⊎_elim, List, [], ◌∷◌, length, refl, sym, ap, subst, ◌∙◌, arith, cond, get_or}
+use Rattle.std.proofs.Common.{inl, inr, ◌≡◌, ℕ, zero, suc, ◌+◌, ◌%◌, ◌<◌, ◌≤◌, ⊎_elim, List, length, refl, sym, ap, subst, ◌∙◌, arith, get_or}
 use Rattle.std.specs.Prelude.{◌⊎◌, ◌≢◌, ◌==◌, ◌&&◌, Bool, true, false, nat_le, if◌then◌else◌, IsSome, Option, Some, None}
 use Rattle.std.specs.Fn.{iterate}
 use Rattle.std.specs.List.{count_by, range_with_len}
@@ -9,28 +9,24 @@ use Rattle.std.proofs.lemmas.List.{get_or-map, get_or_past, length-map, length-s
 use Rattle.std.proofs.lemmas.List.Sums.{sum_by-cons}
 use Rattle.rs01_layers.specs.Layout.{layers_of}
 use Rattle.rs01_layers.specs.declared.shape.Shape.{Shape}
-use Rattle.rs01_outside.specs.DriveView.{DriveView}
 use Rattle.rs01_states.specs.declared.state.State.{State}
 use Rattle.rs01_states.specs.declared.state.State.TheVariants as state
-use Rattle.rs01_states.specs.Sparing.{IsUnread, at_start, found, is_open, is_unread, is_within, lacks, layer_count, open_count, settled, state_of, within_bound}
+use Rattle.rs01_states.specs.Sparing.{IsUnread, found, is_open, is_unread, is_within, lacks, layer_count, open_count, settled, state_of, within_bound}
 use Rattle.rs01_states.proofs.SparedLemmas.{none-is-left, others-stay, spared-lie-within}
-use Rattle.rs01_states.proofs.StateLemmas.{beyond-bound, is-beyond, is-inside, same-open, set-elsewhere, set-here, unread-is-open, unread-inside}
+use Rattle.rs01_states.proofs.StateLemmas.{is-beyond, is-inside, same-open, set-elsewhere, set-here, unread-is-open, unread-inside}
 use Rattle.rs01_linear.specs.Asking.{Asking, kind_of}
 use Rattle.rs01_linear.specs.declared.asking.Asked.{Asked}
 use Rattle.rs01_linear.specs.declared.asking.Asked.TheVariants.{Altered, Read, Unreadable}
 use Rattle.rs01_turns.specs.Turns.{Reading, Terms, after_ask, asking_at, asking_for, next_of, rest, states_after, step}
-use Rattle.rs01_turns.specs.Ends.{ComesTo, IsLeft}
-use Rattle.rs01_turns.specs.Moments.{Moment, Setting}
-use Rattle.rs01_turns.specs.Leads.{Leads}
+use Rattle.rs01_turns.specs.Ends.{IsStateBy}
+use Rattle.rs01_turns.specs.Moments.{Setting}
 use Rattle.rs01_turns.specs.Layers.{AskIsSparing, BeyondAreAsked, EndIsSparing, IsSparing, SettledAreLeft, StartIsSparing, UnaskedLieWithin, WithinGoesOn, WithinToTheEnd, lies_within, start_with, was_good}
-use Rattle.rs01_turns.proofs.Unreads.{Marks, after-marks}
+use Rattle.rs01_turns.proofs.Unreads.{after-marks}
 use Rattle.rs01_turns.proofs.Turning.{ask-marks, cases-next, next-unread, none-still, some-steps}
+use Rattle.rs01_turns.proofs.Times.{counted}
 use Rattle.rs01_turns.proofs.Ending.{others-are-left, settled-still, unread-ends}
 
 -- counts
-
-abbrev counted : Bool → ℕ
-counted is = cond is 1 0
 
 counted-fewer : (a b : Bool) → (b ≡ true → a ≡ true) → counted b ≤ counted a
 counted-fewer true true h = omega arith
@@ -254,7 +250,7 @@ unasked-lie-within terms good views s lacking none =
     let sparing = start-is-sparing terms.shape good in
     let end = end-is-sparing terms now sparing in
     ⊎_elim
-    (λ unread. end.spared s (subst (λ (o : Option Asking). ComesTo o (state_of (rest terms now).states s)) none (unread-ends terms now s unread)))
+    (λ unread. end.spared s (subst (λ (o : Option Asking). IsStateBy o (state_of (rest terms now).states s)) none (unread-ends terms now s unread)))
     (λ not_. ⊎_elim
     (λ (within : lies_within terms.shape now.states s ≡ true). within-to-the-end terms now (s % layer_count terms.shape) within)
     (λ (before : state_of (found good) s ≡ state.Spared). absurd (not-spared (state_of (found good) s) before (found-lacking good s lacking)))

@@ -1,32 +1,29 @@
 -- What is kept between two moments is kept along a chain.
-use Rattle.std.proofs.Common.{zero, suc, inl, inr, get_or, ◌≡◌, ℕ, ◌+◌, ◌*◌, ◌-◌, ◌^◌, ◌≤◌, ◌<◌, ⊎_elim, List, [], ◌∷◌, ◌++◌, length, take, drop, refl, sym, ap, subst, ◌∙◌, arith}
-use Rattle.std.specs.Prelude.{◌⊎◌, ◌≢◌, Bool, Contains, true, false, IsTrue, IsSomeAnd, Option, Some, None, slice_get}
+use Rattle.std.proofs.Common.{zero, suc, inl, inr, get_or, ◌≡◌, ℕ, ◌*◌, ◌≤◌, ◌<◌, ⊎_elim, List, [], ◌∷◌, ◌++◌, length, take, drop, refl, sym, ap, subst, ◌∙◌, arith}
+use Rattle.std.specs.Prelude.{◌⊎◌, ◌≢◌, Bool, Contains, true, false, IsTrue, IsSomeAnd, Option, Some, slice_get}
 use Rattle.std.proofs.lemmas.List.{append-nil, append_assoc}
 use Rattle.std.proofs.lemmas.List.Elements.{Contains-append_cases}
 use Rattle.std.proofs.lemmas.Bool.{cases_Bool, false≢true}
 use Rattle.rs01_lists.specs.Bytes.{part}
 use Rattle.rs01_layers.specs.Sectors.{length_of}
 use Rattle.rs01_outside.specs.Causes.{Rose}
-use Rattle.rs01_outside.specs.DriveState.{DriveState}
-use Rattle.rs01_outside.specs.DeskState.{DeskState, OnlyReads}
-use Rattle.rs01_outside.specs.Files.{Files, SameElsewhere, bytes_of}
-use Rattle.rs01_rack.specs.Asking.{RoseBy}
-use Rattle.rs01_rack.specs.Rack.{AllTell, AtDrive, RackState}
-use Rattle.rs01_ecchead.specs.Erased.{Known, image_len}
+use Rattle.rs01_outside.specs.DeskState.{DeskState}
+use Rattle.rs01_outside.specs.Files.{Files, bytes_of}
+use Rattle.rs01_rack.specs.Rack.{AllTell, RackState}
+use Rattle.rs01_ecchead.specs.Erased.{image_len}
 use Rattle.rs01_states.specs.declared.state.State.{State}
 use Rattle.rs01_states.specs.declared.state.State.TheVariants.{Unread, Good, Failed, Spared}
 use Rattle.rs01_states.specs.Sparing.{is_unread, layer_count, state_of}
 use Rattle.rs01_linear.specs.Asking.{Asking, kind_of}
 use Rattle.rs01_linear.specs.Course.{fate_of}
-use Rattle.rs01_linear.specs.Lasting.{Lasts}
 use Rattle.rs01_linear.specs.Report.{unread}
 use Rattle.rs01_linear.specs.declared.fate.Fate.{Fate}
 use Rattle.rs01_linear.specs.declared.fate.Fate.TheVariants as fate
 use Rattle.rs01_linear.proofs.LastingLemmas.{drive_there, same_lasts}
 use Rattle.rs01_linear.proofs.RoseLemmas.{same_rose}
-use Rattle.rs01_turns.specs.Moments.{IsReady, Moment, Setting, asking_of, bytes_at, fate_at, image_at, known_at, length_at, rest_of, unread_at}
-use Rattle.rs01_turns.specs.Leads.{Became, BecameFailed, BecameGood, GivenOnce, Has, IsOnce, IsBlend, IsWritten, Leads, SameAt, SameDesk, SameDrives, SameFiles, SameRest, SameStart, Stays, unanswered}
-use Rattle.rs01_turns.specs.Laws.{GiveLeads, LeadsOn, LeadsSame, LookLeads, ReadLeads, ReadyOn}
+use Rattle.rs01_turns.specs.Moments.{Moment, Setting, asking_of, bytes_at, fate_at, image_at, known_at, length_at, unread_at}
+use Rattle.rs01_turns.specs.Leads.{Became, IsOnce, IsBlend, IsWritten, Leads, SameAt, SameDesk, SameDrives, SameFiles, SameRest, Stays, unanswered}
+use Rattle.rs01_turns.specs.Laws.{GiveLeads, LeadsOn, LookLeads, ReadLeads, ReadyOn}
 
 -- the drives
 
@@ -89,7 +86,7 @@ written-before f g h s block set_ same le written = ⊎_elim
     (λ m. inr (
       rose-before f.desk.write_faults g.desk.write_faults h.desk.write_faults le m.0,
       subst (λ (old : List ℕ). IsBlend (bytes_at h s) old (take (length_at f s) block)) same
-      (subst (λ (own : List ℕ). IsBlend (bytes_at h s) (bytes_at g s) own) (same-own f g s block set_) m.1),
+          (subst (λ (own : List ℕ). IsBlend (bytes_at h s) (bytes_at g s) own) (same-own f g s block set_) m.1),
     ))
     written
 
@@ -123,8 +120,7 @@ became-later f g h s Unread fg gh same asking b = at-on f g h s fg.desk same b
 became-later f g h s Good fg gh same asking b = record {
   fate_is = b.fate_is;
   told = λ t.
-      let w = b.told t in
-      (
+      let w = b.told t in (
         w.0,
         record {
           read = subst (λ (o : Option Asking). IsSomeAnd o (λ a. a.read ≡ Some w.0)) (asking (told-before g h gh.drives t)) w.1.read;
@@ -145,8 +141,7 @@ became-before f g h s Unread fg gh same not_ b = absurd (false≢true (sym not_)
 became-before f g h s Good fg gh same not_ b = record {
   fate_is = same.fate_same ∙ b.fate_is;
   told = λ t.
-      let w = b.told (told-before g h gh.drives t) in
-      (
+      let w = b.told (told-before g h gh.drives t) in (
         w.0,
         record {
           read = w.1.read;
@@ -235,7 +230,7 @@ unread-same f g s Spared h same = absurd (false≢true h)
 same-files : (f g : Moment) → g.setting ≡ f.setting → g.desk.files ≡ f.desk.files → SameFiles f g
 same-files f g set_ same =
     let image : image_at g ≡ image_at f =
-        ap (λ (x : Setting). bytes_of g.desk.files x.image) set_ ∙ ap (λ (x : Files). bytes_of x f.setting.image) same in
+    ap (λ (x : Setting). bytes_of g.desk.files x.image) set_ ∙ ap (λ (x : Files). bytes_of x f.setting.image) same in
     record {
       len = ap length image;
       surplus = ap (drop (image_len (known_at f))) image;
@@ -319,7 +314,7 @@ pub read-leads : ReadLeads
 read-leads f desk failed only =
     let g : Moment = record f { desk = desk } in
     let bytes : (s : ℕ) → IsTrue f.desk.tells → bytes_at g s ≡ bytes_at f s =
-        λ s t. ap (λ (x : Files). part (bytes_of x f.setting.image) (2048 * s) (length_at f s)) (only.unchanged t) in
+    λ s t. ap (λ (x : Files). part (bytes_of x f.setting.image) (2048 * s) (length_at f s)) (only.unchanged t) in
     record {
       start = record { setting = refl; kept_reads = refl; kept_writes = refl; all = refl; fated = refl };
       drives = same-drives f g refl refl;

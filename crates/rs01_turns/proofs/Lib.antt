@@ -8,3 +8,4 @@ mod Rows
 pub mod Ending
 pub mod Times
 pub mod Layering
+pub mod Stopping

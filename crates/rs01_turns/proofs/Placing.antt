@@ -1,6 +1,6 @@
 -- What writing a sector leaves of an image file.
-use Rattle.std.proofs.Common.{inl, inr, ◌≡◌, ℕ, zero, suc, ◌+◌, ◌-◌, ◌*◌, ◌<◌, ◌≤◌, ⊎_elim, List, [], ◌∷◌, ◌++◌, length, take, drop, get_or, min, refl, sym, ap, subst, ◌∙◌, arith, eqb}
-use Rattle.std.specs.Prelude.{◌⊎◌, ◌≢◌, ◌==◌, Bool, true, false, if◌then◌else◌, Option, Some, Result, Ok, Err}
+use Rattle.std.proofs.Common.{inl, inr, ◌≡◌, ℕ, ◌+◌, ◌-◌, ◌*◌, ◌<◌, ◌≤◌, ⊎_elim, List, [], length, take, drop, get_or, min, sym, ap, subst, ◌∙◌, arith, eqb}
+use Rattle.std.specs.Prelude.{◌⊎◌, ◌≢◌, Option, Result, Ok, Err}
 use Rattle.std.specs.Option.{unwrap_or}
 use Rattle.std.proofs.lemmas.Bool.{cases_eq, cases_lt, cond-true, cond-false, eq-eqb, ne_eqb}
 use Rattle.std.proofs.lemmas.List.{ext_get_or, get_or_past, get_or-drop, get_or-take, length-drop, length-take, take_all}
@@ -69,14 +69,14 @@ pub part-blend : (old new : List ℕ) (at : ℕ) (bytes : List ℕ) (kept n : �
 part-blend old new at bytes kept n over few i = ⊎_elim
     (λ (low : i < n). ⊎_elim
     (λ (in_ : i < length (take kept bytes)). inr (
-      get_or-part new at n i low ∙ over.inside i in_ ∙ get_or-take kept bytes i 0 (omega (arith, in_, length-take kept bytes))
+    get_or-part new at n i low ∙ over.inside i in_ ∙ get_or-take kept bytes i 0 (omega (arith, in_, length-take kept bytes))
     ))
     (λ (out : length (take kept bytes) ≤ i). inl (
-      get_or-part new at n i low ∙ over.outside (at + i) (inr (omega (arith, out))) ∙ sym (get_or-part old at n i low)
+    get_or-part new at n i low ∙ over.outside (at + i) (inr (omega (arith, out))) ∙ sym (get_or-part old at n i low)
     ))
     (cases_lt i (length (take kept bytes))))
     (λ (past : n ≤ i). inl (
-      get_or_past (part new at n) i 0 (omega (arith, past, length-part new at n)) ∙ sym (get_or_past (part old at n) i 0 (omega (arith, past, length-part old at n)))
+    get_or_past (part new at n) i 0 (omega (arith, past, length-part new at n)) ∙ sym (get_or_past (part old at n) i 0 (omega (arith, past, length-part old at n)))
     ))
     (cases_lt i n)
 

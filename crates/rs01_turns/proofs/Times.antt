@@ -1,26 +1,24 @@
 -- How often drives are asked for a sector.
-use Rattle.std.proofs.Common.{inl, inr, ◌≡◌, ℕ, zero, suc, ◌+◌, ◌≤◌, ⊎_elim, List, [], ◌∷◌, ◌++◌, length, refl, sym, ap, subst, ◌∙◌, arith, cond, eqb, replicate}
+use Rattle.std.proofs.Common.{◌≡◌, ℕ, zero, suc, ◌+◌, ◌≤◌, ⊎_elim, List, [], ◌∷◌, ◌++◌, length, refl, sym, ap, subst, ◌∙◌, arith, cond, replicate}
 use Rattle.std.specs.Prelude.{◌≢◌, ◌==◌, Bool, true, false, if◌then◌else◌, is_some, Option, Some, None, slice_get}
 use Rattle.std.specs.Fn.{iterate}
-use Rattle.std.proofs.lemmas.Bool.{cases_Bool, cases_eq, eq-eqb, ne_eqb}
+use Rattle.std.proofs.lemmas.Bool.{cases_eq, eq-eqb, ne_eqb}
 use Rattle.std.proofs.lemmas.Option.{slice_get_within}
 use Rattle.std.proofs.lemmas.List.{append-nil, append_assoc}
 use Rattle.std.proofs.lemmas.List.Sums.{sum_by-append, sum_by-cons}
 use Rattle.rs01_outside.specs.DriveView.{DriveView, answer_at, ask}
 use Rattle.rs01_rack.specs.Asking.{Tried, once_more, try_drive}
 use Rattle.rs01_ecchead.specs.Erased.{Known}
-use Rattle.rs01_states.specs.declared.state.State.{State}
-use Rattle.rs01_states.specs.Sparing.{is_unread, state_of}
 use Rattle.rs01_linear.specs.Asking.{Asking, after_vain, ask_drives, is_good}
 use Rattle.rs01_turns.specs.Turns.{Reading, Terms, after_ask, asking_at, asking_for, asking_within, next_of, rest, step}
-use Rattle.rs01_turns.specs.Ends.{AskedOn, AsksFew, EndsAll, times_of}
+use Rattle.rs01_turns.specs.Ends.{AsksFew, EndsAll, times_of}
 use Rattle.rs01_turns.proofs.Unreads.{unreads, unreads-few}
 use Rattle.rs01_turns.proofs.Turning.{ask-marks, asking-here, asking-later, cases-next, next-none, none-next, none-still, some-steps, step-less}
 use Rattle.rs01_turns.proofs.Ending.{left-within, none-within}
 
 -- how often a number stands in lists
 
-abbrev counted : Bool → ℕ
+abbrev pub counted : Bool → ℕ
 counted is = cond is 1 0
 
 times-cons : (s k : ℕ) (ks : List ℕ) → times_of s (k ∷ ks) ≡ counted (k == s) + times_of s ks

@@ -1,5 +1,5 @@
 -- The laws of the rest of a reading.
-use Rattle.std.proofs.Common.{inl, inr, ◌≡◌, ℕ, ◌+◌, ◌-◌, ◌/◌, ◌<◌, ◌≤◌, ⊎_elim, zero, suc, List, length, get_or, refl, sym, ap, ◌∙◌, arith, eqb}
+use Rattle.std.proofs.Common.{inl, inr, ◌≡◌, ℕ, ◌+◌, ◌-◌, ◌/◌, ◌<◌, ◌≤◌, ⊎_elim, zero, suc, List, length, refl, sym, ap, ◌∙◌, arith, eqb}
 use Rattle.std.specs.Prelude.{◌⊎◌, Bool, true, false, ◌≢◌, ◌==◌, ◌&&◌, if◌then◌else◌, IfSome, Option, Some, None}
 use Rattle.std.specs.Option.{option_map, unwrap_or}
 use Rattle.std.specs.Fn.{iterate}
@@ -15,7 +15,7 @@ use Rattle.rs01_states.specs.Sparing.{is_unread, state_of}
 use Rattle.rs01_states.proofs.StateLemmas.{unread-inside}
 use Rattle.rs01_linear.specs.Asking.{Asking, kind_of}
 use Rattle.rs01_turns.specs.Turns.{NoneUnread, Reading, Terms, after_ask, after_next, asking_at, asking_for, asking_within, is_at, new_turn, next_of, next_sector, rest, step, turn_start, unread_flags}
-use Rattle.rs01_turns.specs.Laws.{KeepsRest, RestOfDone, RestOfNext}
+use Rattle.rs01_turns.specs.Laws.{RestOfDone, RestOfNext}
 use Rattle.rs01_turns.proofs.Unreads.{unreads, unreads-few, unreads-none, Marks, after-marks, after-less}
 
 -- where a turn starts

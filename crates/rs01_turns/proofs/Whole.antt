@@ -1,6 +1,5 @@
 -- A reader that went on until no sector was unread has done the whole rest of the reading.
 use Rattle.std.proofs.Common.{◌≡◌, ℕ, ◌+◌, ◌-◌, ⊎_elim, List, sym, ap, subst, ◌∙◌, arith, take}
-use Rattle.std.specs.Prelude.{Some}
 use Rattle.rs01_outside.specs.Causes.{Rose}
 use Rattle.rs01_rack.specs.Rack.{capped, views_of}
 use Rattle.rs01_states.specs.declared.state.State.{State}
@@ -12,7 +11,7 @@ use Rattle.rs01_turns.specs.Leads.{Became, IsWritten}
 use Rattle.rs01_turns.specs.Laws.{WholeReading}
 use Rattle.rs01_turns.proofs.Turning.{rest-of-done}
 
-wholly-written : (f g : Moment) (s : ℕ) (block : List ℕ) → (Rose f.desk.write_faults g.desk.write_faults → ⊥) → IsWritten f g s block → bytes_at g s ≡ take (length_at f s) block
+pub wholly-written : (f g : Moment) (s : ℕ) (block : List ℕ) → (Rose f.desk.write_faults g.desk.write_faults → ⊥) → IsWritten f g s block → bytes_at g s ≡ take (length_at f s) block
 wholly-written f g s block none written = ⊎_elim (λ e. e) (λ m. absurd (none m.0)) written
 
 no-more : (asks n : ℕ) → capped (asks + (n - n)) ≡ capped asks

@@ -16,13 +16,13 @@ state_by Read = Good
 state_by Unreadable = Failed
 state_by Altered = Failed
 
--- what a sector that is unread comes to: what the answer makes of it, and spared where it isn't asked for
-abbrev pub ComesTo : Option Asking → State → Type 0
-ComesTo None state = state ≡ Spared
-ComesTo (Some asking) state = state ≡ state_by (kind_of asking)
+-- what becomes of a sector that is unread: what the answer makes of it, and spared where it isn't asked for
+abbrev pub IsStateBy : Option Asking → State → Type 0
+IsStateBy None state = state ≡ Spared
+IsStateBy (Some asking) state = state ≡ state_by (kind_of asking)
 
 abbrev pub UnreadEnds : Type 0
-UnreadEnds = (terms : Terms) (now : Reading) (s : ℕ) → IsUnread now.states s → ComesTo (asking_for terms now s) (state_of (rest terms now).states s)
+UnreadEnds = (terms : Terms) (now : Reading) (s : ℕ) → IsUnread now.states s → IsStateBy (asking_for terms now s) (state_of (rest terms now).states s)
 
 -- a sector isn't asked for, and stays as it is
 pub record IsLeft (terms : Terms) (now : Reading) (s : ℕ) : Type 0 where

@@ -7,7 +7,7 @@ use Rattle.rs01_states.specs.declared.state.State.{State}
 use Rattle.rs01_states.specs.declared.state.State.TheVariants.{Spared}
 use Rattle.rs01_turns.specs.Turns.{Reading, Terms, after_ask, asking_for, next_of, rest}
 use Rattle.rs01_turns.specs.Ends.{IsLeft}
-use Rattle.rs01_turns.specs.Moments.{Moment, terms_of}
+use Rattle.rs01_turns.specs.Moments.{Moment}
 use Rattle.rs01_turns.specs.Leads.{Leads}
 
 -- whether the layer of a sector is within its bound

@@ -2,7 +2,7 @@
 use Rattle.std.specs.Prelude.{ℕ, [], ◌∷◌, ◌≡◌, ◌≤◌, ◌<◌, ◌-◌, ◌⊎◌, ◌++◌, Contains, IsSomeAnd, IsTrue, List, Some, drop, false, true, length, slice_index_or, take}
 use Rattle.rs01_outside.specs.Causes.{Rose}
 use Rattle.rs01_outside.specs.Files.{SameElsewhere}
-use Rattle.rs01_rack.specs.Rack.{AllTell, AtDrive, RackState, capped}
+use Rattle.rs01_rack.specs.Rack.{AllTell, AtDrive, capped}
 use Rattle.rs01_ecchead.specs.Erased.{image_len}
 use Rattle.rs01_states.specs.Sparing.{layer_count, state_of}
 use Rattle.rs01_states.specs.declared.state.State.{State}

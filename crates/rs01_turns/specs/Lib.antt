@@ -4,3 +4,4 @@ pub mod Leads
 pub mod Laws
 pub mod Ends
 pub mod Layers
+pub mod Stops

@@ -1,5 +1,5 @@
 use Rattle.rs01_turns.proofs.Layering.{settled-are-left, within-goes-on, within-to-the-end}
-use Rattle.rs01_turns.proofs.settled_layers_are_left.Goals as goal
+use Rattle.rs01_turns.proofs.rest.settled_layers_are_left.Goals as goal
 
 pub returns : goal.returns
 returns c = record {

@@ -1,5 +1,5 @@
 use Rattle.rs01_turns.proofs.Leading.{give-leads, look-leads, read-leads}
-use Rattle.rs01_turns.proofs.small_steps_lead.Goals as goal
+use Rattle.rs01_turns.proofs.leads.small_steps_lead.Goals as goal
 
 pub returns : goal.returns
 returns c = record {

@@ -1,5 +1,5 @@
 use Rattle.rs01_turns.proofs.Layering.{ask-is-sparing, end-is-sparing, start-is-sparing}
-use Rattle.rs01_turns.proofs.sparing_is_kept.Goals as goal
+use Rattle.rs01_turns.proofs.rest.sparing_is_kept.Goals as goal
 
 pub returns : goal.returns
 returns c = record {

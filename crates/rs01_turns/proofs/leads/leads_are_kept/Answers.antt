@@ -1,5 +1,5 @@
 use Rattle.rs01_turns.proofs.Leading.{leads-on, ready-on}
-use Rattle.rs01_turns.proofs.leads_are_kept.Goals as goal
+use Rattle.rs01_turns.proofs.leads.leads_are_kept.Goals as goal
 
 pub returns-clause-on : goal.returns-clause-on
 returns-clause-on c = leads-on
