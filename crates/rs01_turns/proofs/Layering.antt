@@ -20,7 +20,7 @@ use Rattle.rs01_linear.specs.declared.asking.Asked.TheVariants.{Altered, Read, U
 use Rattle.rs01_turns.specs.Turns.{Reading, Terms, after_ask, asking_at, asking_for, next_of, rest, states_after, step}
 use Rattle.rs01_turns.specs.Ends.{IsStateBy}
 use Rattle.rs01_turns.specs.Moments.{Setting}
-use Rattle.rs01_turns.specs.Layers.{AskIsSparing, BeyondAreAsked, EndIsSparing, IsSparing, SettledAreLeft, StartIsSparing, UnaskedLieWithin, WithinGoesOn, WithinToTheEnd, lies_within, start_with, was_good}
+use Rattle.rs01_turns.specs.Layers.{AskIsSparing, BeyondAreAsked, EndIsSparing, IsSparing, SettledAreLeft, SettledStay, StartIsSparing, UnaskedLieWithin, WithinGoesOn, WithinToTheEnd, lies_within, start_with, was_good}
 use Rattle.rs01_turns.proofs.Unreads.{after-marks}
 use Rattle.rs01_turns.proofs.Turning.{ask-marks, cases-next, next-unread, none-still, some-steps}
 use Rattle.rs01_turns.proofs.Times.{counted}
@@ -233,6 +233,12 @@ settled-are-left terms now s sparing within = ⊎_elim
     (λ unread. absurd (false≢true (sym (sparing.unread s unread) ∙ within)))
     (λ not_. others-are-left terms now s not_)
     (cases_Bool (is_unread (state_of now.states s)))
+
+pub settled-stay : SettledStay
+settled-stay f g s leads sparing within = ⊎_elim
+    (λ unread. absurd (false≢true (sym (sparing.unread s unread) ∙ within)))
+    (λ not_. leads.stays s not_)
+    (cases_Bool (is_unread (state_of f.states s)))
 
 -- who is asked for
 

@@ -8,7 +8,7 @@ use Rattle.rs01_states.specs.declared.state.State.TheVariants.{Spared}
 use Rattle.rs01_turns.specs.Turns.{Reading, Terms, after_ask, asking_for, next_of, rest}
 use Rattle.rs01_turns.specs.Ends.{IsLeft}
 use Rattle.rs01_turns.specs.Moments.{Moment}
-use Rattle.rs01_turns.specs.Leads.{Leads}
+use Rattle.rs01_turns.specs.Leads.{Leads, Stays}
 
 -- whether the layer of a sector is within its bound
 abbrev pub lies_within : Option Shape → List State → ℕ → Bool
@@ -46,6 +46,12 @@ WithinGoesOn =
 abbrev pub SettledAreLeft : Type 0
 SettledAreLeft =
     (terms : Terms) (now : Reading) (s : ℕ) → IsSparing terms.shape now.states → lies_within terms.shape now.states s ≡ true → IsLeft terms now s
+
+-- and what a reader has of them is final
+abbrev pub SettledStay : Type 0
+SettledStay =
+    (f g : Moment) (s : ℕ) → Leads f g → IsSparing f.setting.terms.shape f.states → lies_within f.setting.terms.shape f.states s ≡ true
+    → Stays f g s
 
 -- whether a sector was good at the start; behind the last one none is missing
 abbrev pub was_good : List Bool → ℕ → Bool

@@ -5,6 +5,7 @@ ghost use Rattle.rs01_turns.specs.Layers.{
   BeyondAreAsked,
   EndIsSparing,
   SettledAreLeft,
+  SettledStay,
   StartIsSparing,
   UnaskedLieWithin,
   WithinGoesOn,
@@ -42,11 +43,13 @@ pub fn sparing_is_kept()
     ensures end { EndIsSparing }
 {}
 
-/// A layer within its bound stays so, and none of its sectors is asked for from then on.
+/// A layer within its bound stays so. None of its sectors is asked for from then on, and what a reader has of them is
+/// final.
 pub fn settled_layers_are_left()
     ensures end { WithinToTheEnd }
     ensures on { WithinGoesOn }
     ensures left { SettledAreLeft }
+    ensures stay { SettledStay }
 {}
 
 /// A sector that wasn't good at the start and is never asked for lies in a layer within its bound, so that in every
