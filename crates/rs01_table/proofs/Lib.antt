@@ -1,0 +1,10 @@
+pub mod SumLemmas
+pub mod PartLemmas
+pub mod CoreLemmas
+pub mod SlotLemmas
+pub mod ShownLemmas
+pub mod KeepLemmas
+pub mod JoinLemmas
+pub mod EndLemmas
+pub mod SeatLemmas
+pub mod EndingLemmas
