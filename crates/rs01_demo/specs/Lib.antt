@@ -1,0 +1,5 @@
+pub mod Generator
+pub mod Plan
+pub mod Faults
+pub mod Steps
+pub mod Answer
