@@ -6,6 +6,8 @@ use Rattle.rs01_outside.proofs.States.{reads-start, works-reads}
 use Rattle.rs01_outside.specs.Causes.{Rose}
 use Rattle.rs01_outside.specs.DeskState.{DeskState, WorksOn}
 use Rattle.rs01_outside.specs.SinkState.{SinkState}
+use Rattle.rs01_demo.specs.Faults.{CountsFaults}
+use Rattle.rs01_demo.proofs.CountLemmas.{counts}
 use Rattle.rs01_report.specs.declared.faults.Fault.{Fault}
 use Rattle.rs01_report.specs.declared.faults.Fault.TheVariants as fault
 use Rattle.rs01_report.specs.declared.puts.PutRefusal.{PutRefusal}
@@ -154,8 +156,8 @@ pub not_asked : (work : Work) (rack : RackState) → OfRack work rack rack
 not_asked work rack = record { lasts = rack_stays rack; unused = λ h. refl }
 
 -- the work ended without a fault, and this is its text with its status
-settled : (work : Work) (name : List ℕ) (old new : World) (line : List ℕ) (wanted status : ℕ)
-    → IsSettled wanted → OfRack work old.rack new.rack → WorksOn name old.desk new.desk false false
+settled : (work : Work) (old new : World) (line : List ℕ) (wanted status : ℕ)
+    → IsSettled wanted → OfRack work old.rack new.rack → CountsFaults old.desk new.desk false false
     → (IsKnown work old new → Answers work (outside_of old) (outside_of new) line wanted)
     → (IsKnown work old new → work.may_stand (outside_of old) (outside_of new))
     → ((why : Fault) → work.refusal (outside_of old) ≡ Some why → (status_of why ≡ 2) ⊎ IsKnown work old new → status_of why ≡ wanted)
@@ -163,7 +165,7 @@ settled : (work : Work) (name : List ℕ) (old new : World) (line : List ℕ) (w
     → (wanted ≡ 5 → RefusingDrives work old.rack new.rack line)
     → IsTold line wanted old.out new.out status
     → IsRun work old new status
-settled work name old new line wanted status w rack works answer left refusing only drives put =
+settled work old new line wanted status w rack works answer left refusing only drives put =
     let rest : NothingRose old.desk new.desk = (works.read_kept refl, works.write_kept refl) in
     record {
       lasts = record {
@@ -216,16 +218,16 @@ settled work name old new line wanted status w rack works answer left refusing o
       };
     }
 
--- the work was done
-pub done : (work : Work) (name : List ℕ) (old new : World) (line : List ℕ) (wanted status : ℕ)
-    → NotOfWords work → (wanted ≡ 0) ⊎ (wanted ≡ 1) → OfRack work old.rack new.rack → WorksOn name old.desk new.desk false false
+-- the work was done, on whatever files
+pub done_by : (work : Work) (old new : World) (line : List ℕ) (wanted status : ℕ)
+    → NotOfWords work → (wanted ≡ 0) ⊎ (wanted ≡ 1) → OfRack work old.rack new.rack → CountsFaults old.desk new.desk false false
     → (IsKnown work old new → work.refusal (outside_of old) ≡ None)
     → (IsKnown work old new → work.done (outside_of old) (outside_of new) line wanted)
     → (IsKnown work old new → work.may_stand (outside_of old) (outside_of new))
     → Ends line wanted old.out new.out status
     → IsRun work old new status
-done work name old new line wanted status words range rack works none did left ends =
-    settled work name old new line wanted status (⊎_elim (λ e. inl e) (λ e. inr (inl e)) range) rack works
+done_by work old new line wanted status words range rack works none did left ends =
+    settled work old new line wanted status (⊎_elim (λ e. inl e) (λ e. inr (inl e)) range) rack works
     (λ d. subst (λ (o : Option Fault). AnswersBy o work.done (outside_of old) (outside_of new) line wanted) (sym (none d)) (did d))
     left
     (λ why e known. absurd (⊎_elim (λ two. words (outside_of old) why e two) (λ d. some_none why (sym e ∙ none d)) known))
@@ -236,22 +238,33 @@ done work name old new line wanted status words range rack works none did left e
     (λ five. absurd (low wanted 5 range five (omega arith)))
     (told line wanted old.out new.out status (λ e. low wanted 6 range e (omega arith)) (λ e. low wanted 7 range e (omega arith)) ends)
 
+-- on one of them
+pub done : (work : Work) (name : List ℕ) (old new : World) (line : List ℕ) (wanted status : ℕ)
+    → NotOfWords work → (wanted ≡ 0) ⊎ (wanted ≡ 1) → OfRack work old.rack new.rack → WorksOn name old.desk new.desk false false
+    → (IsKnown work old new → work.refusal (outside_of old) ≡ None)
+    → (IsKnown work old new → work.done (outside_of old) (outside_of new) line wanted)
+    → (IsKnown work old new → work.may_stand (outside_of old) (outside_of new))
+    → Ends line wanted old.out new.out status
+    → IsRun work old new status
+done work name old new line wanted status words range rack works none did left ends =
+    done_by work old new line wanted status words range rack (counts name old.desk new.desk false false works) none did left ends
+
 -- files and drives mean the same as before
 pub record SameOutside (old new : Outside) : Type 0 where
   pub files : new.files ≡ old.files
   pub views : new.views ≡ old.views
 
 -- files or drives refuse the work
-refused_for : (work : Work) (name : List ℕ) (old new : World) (why : Fault) (status : ℕ)
-    → NotOfWords work → (status_of why ≡ 3) ⊎ (status_of why ≡ 5) → OfRack work old.rack new.rack → WorksOn name old.desk new.desk false false
+refused_for : (work : Work) (old new : World) (why : Fault) (status : ℕ)
+    → NotOfWords work → (status_of why ≡ 3) ⊎ (status_of why ≡ 5) → OfRack work old.rack new.rack → CountsFaults old.desk new.desk false false
     → (IsKnown work old new → work.refusal (outside_of old) ≡ Some why)
     → (IsKnown work old new → SameOutside (outside_of old) (outside_of new))
     → (IsKnown work old new → work.may_stand (outside_of old) (outside_of new))
     → (status_of why ≡ 5 → RefusingDrives work old.rack new.rack (fault_line why))
     → Ends (fault_line why) (status_of why) old.out new.out status
     → IsRun work old new status
-refused_for work name old new why status words number rack works first same left drives ends =
-    settled work name old new (fault_line why) (status_of why) status (inr (inr (inr number))) rack works
+refused_for work old new why status words number rack works first same left drives ends =
+    settled work old new (fault_line why) (status_of why) status (inr (inr (inr number))) rack works
     (λ d. subst (λ (o : Option Fault). AnswersBy o work.done (outside_of old) (outside_of new) (fault_line why) (status_of why)) (sym (first d))
     (record { files = (same d).files; views = (same d).views; line = refl; number = refl }))
     left
@@ -265,6 +278,17 @@ refused_for work name old new why status words number rack works first same left
     (λ e. three_or_five (status_of why) 6 number e (omega arith)) (λ e. three_or_five (status_of why) 7 number e (omega arith)) ends)
 
 -- the files refuse the work
+pub refused_by : (work : Work) (old new : World) (why : Fault) (status : ℕ)
+    → NotOfWords work → status_of why ≡ 3 → OfRack work old.rack new.rack → CountsFaults old.desk new.desk false false
+    → (IsKnown work old new → work.refusal (outside_of old) ≡ Some why)
+    → (IsKnown work old new → SameOutside (outside_of old) (outside_of new))
+    → (IsKnown work old new → work.may_stand (outside_of old) (outside_of new))
+    → Ends (fault_line why) (status_of why) old.out new.out status
+    → IsRun work old new status
+refused_by work old new why status words three rack works first same left ends =
+    refused_for work old new why status words (inl three) rack works first same left
+    (λ five. absurd (other_than (status_of why) 3 5 three (λ e. omega arith) five)) ends
+
 pub refused : (work : Work) (name : List ℕ) (old new : World) (why : Fault) (status : ℕ)
     → NotOfWords work → status_of why ≡ 3 → OfRack work old.rack new.rack → WorksOn name old.desk new.desk false false
     → (IsKnown work old new → work.refusal (outside_of old) ≡ Some why)
@@ -273,8 +297,7 @@ pub refused : (work : Work) (name : List ℕ) (old new : World) (why : Fault) (s
     → Ends (fault_line why) (status_of why) old.out new.out status
     → IsRun work old new status
 refused work name old new why status words three rack works first same left ends =
-    refused_for work name old new why status words (inl three) rack works first same left
-    (λ five. absurd (other_than (status_of why) 3 5 three (λ e. omega arith) five)) ends
+    refused_by work old new why status words three rack (counts name old.desk new.desk false false works) first same left ends
 
 -- the drives refuse it
 pub refused_by_drives : (work : Work) (name : List ℕ) (old new : World) (why : Fault) (status : ℕ)
@@ -286,7 +309,7 @@ pub refused_by_drives : (work : Work) (name : List ℕ) (old new : World) (why :
     → Ends (fault_line why) (status_of why) old.out new.out status
     → IsRun work old new status
 refused_by_drives work name old new why status words used five raised rack works first same left ends =
-    refused_for work name old new why status words (inr five) rack works first same left
+    refused_for work old new why status words (inr five) rack (counts name old.desk new.desk false false works) first same left
     (λ e. record { used = used; why = why; number = five; raised = raised; line_is = refl }) ends
 
 -- the words refuse it, and nothing is begun
@@ -294,8 +317,8 @@ pub not_begun : (why : Fault) (desk : DeskState) (rack : RackState) (out out' : 
     → Ends (fault_line why) (status_of why) out out' status
     → IsRun (no_work why) (world desk rack out) (world desk rack out') status
 not_begun why desk rack out out' status two ends =
-    settled (no_work why) [] (world desk rack out) (world desk rack out') (fault_line why) (status_of why) status
-    (inr (inr (inl two))) (not_asked (no_work why) rack) (works-reads [] desk desk false (reads-start desk))
+    settled (no_work why) (world desk rack out) (world desk rack out') (fault_line why) (status_of why) status
+    (inr (inr (inl two))) (not_asked (no_work why) rack) (counts [] desk desk false false (works-reads [] desk desk false (reads-start desk)))
     (λ d. record { files = refl; views = refl; line = refl; number = refl })
     (λ d. refl)
     (λ other e known. ap status_of (sym (some_same why other e)))
@@ -340,17 +363,37 @@ faulted work old new line status words rack tells reads writes left cause still 
   };
 }
 
+pub read_failed_by : (work : Work) (old new : World) (status : ℕ)
+    → NotOfWords work → OfRack work old.rack new.rack → CountsFaults old.desk new.desk true false
+    → (IsKnown work old new → work.may_stand (outside_of old) (outside_of new))
+    → Ends (fault_line fault.ReadFault) 4 old.out new.out status
+    → IsRun work old new status
+read_failed_by work old new status words rack works left ends =
+    faulted work old new (fault_line fault.ReadFault) status words rack works.tells works.reads_later works.writes_later left
+    (inl (works.read_rose refl, refl)) (λ h. works.write_kept refl)
+    (told (fault_line fault.ReadFault) 4 old.out new.out status (λ e. omega arith) (λ e. omega arith) ends)
+
 pub read_failed : (work : Work) (name : List ℕ) (old new : World) (status : ℕ)
     → NotOfWords work → OfRack work old.rack new.rack → WorksOn name old.desk new.desk true false
     → (IsKnown work old new → work.may_stand (outside_of old) (outside_of new))
     → Ends (fault_line fault.ReadFault) 4 old.out new.out status
     → IsRun work old new status
 read_failed work name old new status words rack works left ends =
-    faulted work old new (fault_line fault.ReadFault) status words rack works.tells works.reads_later works.writes_later left
-    (inl (works.read_rose refl, refl)) (λ h. works.write_kept refl)
-    (told (fault_line fault.ReadFault) 4 old.out new.out status (λ e. omega arith) (λ e. omega arith) ends)
+    read_failed_by work old new status words rack (counts name old.desk new.desk true false works) left ends
 
 -- writing is tried only by work that does more than read, once nothing refuses it
+pub write_failed_by : (work : Work) (old new : World) (status : ℕ)
+    → NotOfWords work → work.only_reads ≡ false → OfRack work old.rack new.rack → CountsFaults old.desk new.desk false true
+    → (IsKnown work old new → work.refusal (outside_of old) ≡ None)
+    → (IsKnown work old new → work.may_stand (outside_of old) (outside_of new))
+    → Ends (fault_line fault.WriteFault) 4 old.out new.out status
+    → IsRun work old new status
+write_failed_by work old new status words more rack works none left ends =
+    faulted work old new (fault_line fault.WriteFault) status words rack works.tells works.reads_later works.writes_later left
+    (inr (works.write_rose refl, refl))
+    (λ h. absurd (⊎_elim (λ only. not_false (subst IsTrue more only)) (λ p. not_some (work.refusal (outside_of old)) (none p.0) p.1) h))
+    (told (fault_line fault.WriteFault) 4 old.out new.out status (λ e. omega arith) (λ e. omega arith) ends)
+
 pub write_failed : (work : Work) (name : List ℕ) (old new : World) (status : ℕ)
     → NotOfWords work → work.only_reads ≡ false → OfRack work old.rack new.rack → WorksOn name old.desk new.desk false true
     → (IsKnown work old new → work.refusal (outside_of old) ≡ None)
@@ -358,10 +401,7 @@ pub write_failed : (work : Work) (name : List ℕ) (old new : World) (status : �
     → Ends (fault_line fault.WriteFault) 4 old.out new.out status
     → IsRun work old new status
 write_failed work name old new status words more rack works none left ends =
-    faulted work old new (fault_line fault.WriteFault) status words rack works.tells works.reads_later works.writes_later left
-    (inr (works.write_rose refl, refl))
-    (λ h. absurd (⊎_elim (λ only. not_false (subst IsTrue more only)) (λ p. not_some (work.refusal (outside_of old)) (none p.0) p.1) h))
-    (told (fault_line fault.WriteFault) 4 old.out new.out status (λ e. omega arith) (λ e. omega arith) ends)
+    write_failed_by work old new status words more rack (counts name old.desk new.desk false true works) none left ends
 
 -- how the line for want of memory was put
 record IsOver (out out' : SinkState) (status : ℕ) : Type 0 where
@@ -386,12 +426,12 @@ over_by out out' status (Err OutOfMemory) puts e = record {
   begun = begun_none out out' (fault_line fault.OutOfMemory) (λ t. puts.taken t);
 }
 
-run_over : (work : Work) (name : List ℕ) (old new : World) (status : ℕ)
-    → NotOfWords work → OfRack work old.rack new.rack → WorksOn name old.desk new.desk false false
+run_over : (work : Work) (old new : World) (status : ℕ)
+    → NotOfWords work → OfRack work old.rack new.rack → CountsFaults old.desk new.desk false false
     → (IsKnown work old new → work.may_stand (outside_of old) (outside_of new))
     → IsOver old.out new.out status
     → IsRun work old new status
-run_over work name old new status words rack works left over =
+run_over work old new status words rack works left over =
     let seven : status ≡ 7 = over.seven in
     record {
       lasts = record {
@@ -424,13 +464,21 @@ run_over work name old new status words rack works left over =
     }
 
 -- memory ran out
+pub out_of_memory_by : (work : Work) (old new : World) (status : ℕ)
+    → NotOfWords work → OfRack work old.rack new.rack → CountsFaults old.desk new.desk false false
+    → (IsKnown work old new → work.may_stand (outside_of old) (outside_of new))
+    → Ends (fault_line fault.OutOfMemory) 7 old.out new.out status
+    → IsRun work old new status
+out_of_memory_by work old new status words rack works left ends =
+    run_over work old new status words rack works left (over_by old.out new.out status ends.put ends.puts ends.number)
+
 pub out_of_memory : (work : Work) (name : List ℕ) (old new : World) (status : ℕ)
     → NotOfWords work → OfRack work old.rack new.rack → WorksOn name old.desk new.desk false false
     → (IsKnown work old new → work.may_stand (outside_of old) (outside_of new))
     → Ends (fault_line fault.OutOfMemory) 7 old.out new.out status
     → IsRun work old new status
 out_of_memory work name old new status words rack works left ends =
-    run_over work name old new status words rack works left (over_by old.out new.out status ends.put ends.puts ends.number)
+    out_of_memory_by work old new status words rack (counts name old.desk new.desk false false works) left ends
 
 -- the line of a fault, as it is called elsewhere
 pub ends_by : (f f' : Fault) (out out' : SinkState) (status : ℕ) → f ≡ f'

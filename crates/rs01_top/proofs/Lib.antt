@@ -1,6 +1,7 @@
 mod Alone
 mod Asks
 mod Creates
+mod Demos
 mod Endings
 mod Fixes
 mod HeadFaults

@@ -8,6 +8,7 @@ use Rattle.rs01_words.specs.declared.fault.WordRefused.{WordRefused}
 use Rattle.rs01_words.specs.Line.{word_at}
 use Rattle.rs01_words.specs.Command.{words_of}
 use Rattle.rs01_top.specs.Create.{create_work}
+use Rattle.rs01_top.specs.Demo.{demo_work}
 use Rattle.rs01_top.specs.Faults.{word_fault}
 use Rattle.rs01_top.specs.Fix.{fix_work}
 use Rattle.rs01_top.specs.Read.{read_work}
@@ -24,7 +25,7 @@ work_of words (command.Scan ecc drives) = scan_work (option_map (word_at words) 
 work_of words (command.Read image ecc drives true jump tries workers) = no_work fault.NotBuilt
 work_of words (command.Read image ecc drives false jump tries workers) =
     read_work (word_at words image) (option_map (word_at words) ecc) jump tries
-work_of words (command.Demo number sectors parity lost) = no_work fault.NotBuilt
+work_of words (command.Demo number sectors parity lost) = demo_work number sectors parity lost
 
 -- where the words are in the grammar, and else none but to tell their fault
 abbrev pub work_by : List (List ℕ) → Result Command WordRefused → Work

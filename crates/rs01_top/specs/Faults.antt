@@ -7,6 +7,8 @@ use Rattle.rs01_words.specs.declared.fault.WordFault.TheVariants as word
 use Rattle.rs01_words.specs.declared.fault.WordRefused.{WordRefused}
 use Rattle.rs01_create.specs.declared.refusal.CreateRefusal.{CreateRefusal}
 use Rattle.rs01_create.specs.declared.refusal.CreateRefusal.TheVariants as create
+use Rattle.rs01_demo.specs.declared.refusal.DemoRefusal.{DemoRefusal}
+use Rattle.rs01_demo.specs.declared.refusal.DemoRefusal.TheVariants as demo
 use Rattle.rs01_ecchead.specs.declared.head.HeadRefusal.{HeadRefusal}
 use Rattle.rs01_ecchead.specs.declared.head.HeadRefusal.TheVariants as head
 use Rattle.rs01_ecchead.specs.declared.opened.Which.{Which}
@@ -79,6 +81,14 @@ fix_fault (fix.Body have want) = fault.Body have want
 fix_fault fix.ReadFault = fault.ReadFault
 fix_fault fix.WriteFault = fault.WriteFault
 fix_fault fix.OutOfMemory = fault.OutOfMemory
+
+-- why nothing was shown
+abbrev pub demo_fault : DemoRefusal → Fault
+demo_fault (demo.Create why) = create_fault why
+demo_fault (demo.Fix why) = fix_fault why
+demo_fault demo.ReadFault = fault.ReadFault
+demo_fault demo.WriteFault = fault.WriteFault
+demo_fault demo.OutOfMemory = fault.OutOfMemory
 
 -- why an error correction file wasn't opened
 abbrev pub ecc_fault : EccRefusal → Fault

@@ -6,5 +6,6 @@ pub mod Fix
 pub mod Verify
 pub mod Scan
 pub mod Read
+pub mod Demo
 pub mod Asked
 pub mod Run

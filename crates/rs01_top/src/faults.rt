@@ -1,8 +1,9 @@
 //! Which fault a refusal is told as.
 ghost use Rattle.std.specs.Prelude.{◌≡◌};
-ghost use Rattle.rs01_top.specs.Faults.{absent_fault, create_fault, ecc_fault, fix_fault, head_fault, rack_fault, read_fault, verify_fault, word_fault};
+ghost use Rattle.rs01_top.specs.Faults.{absent_fault, create_fault, demo_fault, ecc_fault, fix_fault, head_fault, rack_fault, read_fault, verify_fault, word_fault};
 
 use rs01_create::CreateRefusal;
+use rs01_demo::DemoRefusal;
 use rs01_ecchead::{EccRefusal, HeadRefusal, Which};
 use rs01_fix::FixRefusal;
 use rs01_linear::ReadRefusal;
@@ -94,6 +95,19 @@ pub fn fix_fault(why: FixRefusal) -> Fault
         FixRefusal::ReadFault => Fault::ReadFault,
         FixRefusal::WriteFault => Fault::WriteFault,
         FixRefusal::OutOfMemory => Fault::OutOfMemory,
+    }
+}
+
+// The fault of a demonstration that wasn't done.
+pub fn demo_fault(why: DemoRefusal) -> Fault
+    ensures { result ≡ demo_fault why }
+{
+    match why {
+        DemoRefusal::Create(why) => create_fault(why),
+        DemoRefusal::Fix(why) => fix_fault(why),
+        DemoRefusal::ReadFault => Fault::ReadFault,
+        DemoRefusal::WriteFault => Fault::WriteFault,
+        DemoRefusal::OutOfMemory => Fault::OutOfMemory,
     }
 }
 

@@ -9,6 +9,7 @@ ghost use Rattle.rs01_top.specs.Outside.{world};
 ghost use Rattle.rs01_top.specs.Run.{IsRun};
 
 use crate::commands::create::run_create;
+use crate::commands::demo::run_demo;
 use crate::commands::fix::run_fix;
 use crate::commands::read::run_read;
 use crate::commands::scan::run_scan;
@@ -80,7 +81,12 @@ fn answer<D: Desk, S: Sink>(
             let ecc = word_if(words, ecc);
             run_read(alloc, desk, at(words, image), ecc, jump, tries, rack, out)
         }
-        Command::Demo { .. } => fail(alloc, &Fault::NotBuilt, out),
+        Command::Demo {
+            number,
+            sectors,
+            parity,
+            lost,
+        } => run_demo(alloc, desk, number, sectors, parity, lost, out),
     }
 }
 
@@ -94,8 +100,8 @@ fn answer<D: Desk, S: Sink>(
 ///
 /// | Status | Where |
 /// |---|---|
-/// | 0 | the command was done; `fix` left no sector lost and found no layer strange; `verify` found no sector missing or altered, and the image's digest to match; `scan` found no sector unreadable or altered; `read` left no sector lost |
-/// | 1 | `fix`, `verify`, `scan` or `read` was done, and it is otherwise |
+/// | 0 | the command was done; `fix` or `demo` left no sector lost and found no layer strange; `verify` found no sector missing or altered, and the image's digest to match; `scan` found no sector unreadable or altered; `read` left no sector lost |
+/// | 1 | `fix`, `verify`, `scan`, `read` or `demo` was done, and it is otherwise |
 /// | 2 | the words aren't in the grammar, or what they ask for isn't built yet |
 /// | 3 | the image isn't there, is empty, has too many sectors, or has a sector that is marked as missing; or the error correction file isn't there or is damaged |
 /// | 4 | a file could not be read or written |

@@ -8,6 +8,7 @@ use std::fmt::Write;
 use std::process::Abort;
 use std::test::Fail;
 
+mod demo;
 mod drives;
 
 // The words of a line, parted by spaces.
@@ -25,7 +26,7 @@ pub fn no_drives(alloc: Global) -> Result<Rack, AllocError> {
 }
 
 // Runs a line, and tells the status and whether these bytes were put.
-fn puts<D: Desk>(
+pub fn puts<D: Desk>(
     alloc: Global,
     line: &str,
     desk: &mut D,
@@ -75,7 +76,7 @@ fn words_that_give_no_work(rt: HostRuntime) -> Result<(), Fail> {
         ("create a", "rs01: word 2: something is missing\n"),
         ("create a a", "rs01: word 2: the same name twice\n"),
         ("read a --drive d --adaptive", "rs01: not built yet\n"),
-        ("demo 1 300 32 40", "rs01: not built yet\n"),
+        ("demo 1 300 32 301", "rs01: word 4: out of range\n"),
     ] {
         let mut desk = MemoryDesk::new(rt.alloc());
         desk.put_file(rt.alloc(), "a", b"abc")?;

@@ -37,4 +37,4 @@ returns-then-adaptive g c = record {
 }
 
 pub returns-in-Demo : goal.returns-in-Demo
-returns-in-Demo g c = record { run = as_asked _ _ _ _ _ _ _ c.in-Ok.ensures.answer c.in-Demo.is (not_begun NotBuilt _ _ _ _ _ refl c.fail-in-Demo.ensures) }
+returns-in-Demo g c = record { run = as_asked _ _ _ _ _ _ _ c.in-Ok.ensures.answer c.in-Demo.is (c.run_demo.ensures.run _) }
