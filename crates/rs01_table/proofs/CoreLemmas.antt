@@ -10,7 +10,7 @@ use Rattle.rs01_table.specs.declared.given.Given.{Given}
 use Rattle.rs01_table.specs.declared.views.Gave.{Gave}
 use Rattle.rs01_table.specs.declared.views.Hold.{Hold}
 use Rattle.rs01_window.specs.Soundness.{same_test}
-use Rattle.rs01_table.specs.Rule.{bit, times_in, tickets, GotFine, GivenFine, AllFine, Core}
+use Rattle.rs01_table.specs.Rule.{bit, times_in, tickets, GotFine, GivenFine, AllFine, Core, Fine}
 use Rattle.rs01_table.specs.Views.{Answers, after_claim, after_post, after_close, after_draw, after_got, after_not, after_give, hires, hired}
 use Rattle.rs01_table.proofs.SumLemmas.{total-set, total-kept, total-snoc, below_more}
 use Rattle.rs01_table.proofs.PartLemmas.{roles_worker, roles_poster, roles_more, fine_set, fine_more, fine_posted, fine_closed, tickets_kept, numbers_kept}
@@ -158,26 +158,31 @@ module _ (fit : LayerInput → Type 0) (value : LayerInput → LayerOut) where
     pub closed_odd : eqb (w0 % 2) 1 ≡ true → p.closed ≡ true
     closed_odd e = bit_one p.closed (let odd = eqb-true (w0 % 2) 1 e in let is = c.word.is in let b = bit_le p.closed in omega arith)
 
+    -- a look leaves what the worker holds, gave and is called
+    core_look : (w : View) → w.posts ≡ false → w.held ≡ v.held → w.given ≡ v.given → w.numbers ≡ v.numbers
+        → Fine value p.posted p.closed w → Core fit value p n w0 w1 w2 (set vs id w)
+    core_look w working held given numbers fine = record {
+      roles = roles_worker fit value p vs id v w c.roles at works working;
+      fits = c.fits;
+      word = c.word;
+      tickets = tickets_kept fit value w1 w2 vs id v w at held given c.tickets;
+      fine = fine_set fit value p.posted p.closed vs id w c.fine fine;
+      numbers = numbers_kept fit value p.workers vs id v w at numbers c.numbers;
+    }
+
     pub core_look_got : (t : ℕ) (i : LayerInput) → v.held ≡ t ∷ [] → v.got ≡ [] → v.over ≡ false → t < w0 / 2 → get_elem? p.posted t ≡ some i
         → let w : View = after_got v w0 record { ticket = t; input = i } in Core fit value p n w0 w1 w2 (set vs id w)
     core_look_got t i held empty going below there =
         let w : View = after_got v w0 record { ticket = t; input = i } in
         let mine = c.fine id v at in
-        record {
-          roles = roles_worker fit value p vs id v w c.roles at works works;
-          fits = c.fits;
-          word = c.word;
-          tickets = tickets_kept fit value w1 w2 vs id v w at refl refl c.tickets;
-          fine = fine_set fit value p.posted p.closed vs id w c.fine record {
-            few = mine.few;
-            seen = omega (arith, posted_half);
-            seen_closed = λ e. (closed_odd e, posted_half);
-            got = (refl, held, below, there);
-            over = λ e. absurd cc;
-            given = mine.given;
-            named = mine.named;
-          };
-          numbers = numbers_kept fit value p.workers vs id v w at refl c.numbers;
+        core_look w works refl refl refl record {
+          few = mine.few;
+          seen = omega (arith, posted_half);
+          seen_closed = λ e. (closed_odd e, posted_half);
+          got = (refl, held, below, there);
+          over = λ e. absurd cc;
+          given = mine.given;
+          named = mine.named;
         }
 
     pub core_look_not : (t : ℕ) → v.held ≡ t ∷ [] → v.got ≡ [] → w0 / 2 ≤ t
@@ -185,21 +190,14 @@ module _ (fit : LayerInput → Type 0) (value : LayerInput → LayerOut) where
     core_look_not t held empty beyond =
         let w : View = after_not v w0 in
         let mine = c.fine id v at in
-        record {
-          roles = roles_worker fit value p vs id v w c.roles at works works;
-          fits = c.fits;
-          word = c.word;
-          tickets = tickets_kept fit value w1 w2 vs id v w at refl refl c.tickets;
-          fine = fine_set fit value p.posted p.closed vs id w c.fine record {
-            few = mine.few;
-            seen = omega (arith, posted_half);
-            seen_closed = λ e. (closed_odd e, posted_half);
-            got = tt;
-            over = λ e. (t, held, beyond, e);
-            given = mine.given;
-            named = mine.named;
-          };
-          numbers = numbers_kept fit value p.workers vs id v w at refl c.numbers;
+        core_look w works refl refl refl record {
+          few = mine.few;
+          seen = omega (arith, posted_half);
+          seen_closed = λ e. (closed_odd e, posted_half);
+          got = tt;
+          over = λ e. (t, held, beyond, e);
+          given = mine.given;
+          named = mine.named;
         }
 
     -- what the rule says of a worker's slot

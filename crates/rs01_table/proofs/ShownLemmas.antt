@@ -70,22 +70,17 @@ module _ (fit : LayerInput → Type 0) (value : LayerInput → LayerOut) where
         let here : same_test w k ≡ same_test w w = ap (same_test w) same in
         absurd (omega (arith, below_le w p.workers, same_self w))
 
-    -- a worker's view changes, and gives nothing
-    shows_worker : (m : Machine) (w : ℕ) (x : Status) (v' : View) → v.numbers ≡ w ∷ [] → v'.numbers ≡ v.numbers → v'.given ≡ v.given → status v' ≡ x → (ticket : ℕ) → Shows m p n ticket vs
-        → Shows (record m { workers = set m.workers w x }) p n ticket (set vs id v')
-    shows_worker m w x v' mine named given is ticket r = record {
+    -- a worker's view changes, and gives nothing: the statuses that are shown are the machine's
+    shows_with : (m : Machine) (workers : List Status) (v' : View) → v'.given ≡ v.given → length workers ≡ p.workers
+        → ((i : ℕ) (u : View) → get_elem? (set vs id v') i ≡ some u → u.posts ≡ false → (k : ℕ) → u.numbers ≡ k ∷ [] → slice_get workers k ≡ Some (status u))
+        → (ticket : ℕ) → Shows m p n ticket vs → Shows (record m { workers = workers }) p n ticket (set vs id v')
+    shows_with m workers v' given staff shown ticket r = record {
       slots = r.slots;
       posted = r.posted;
       closed = r.closed;
       next = r.next;
-      staff = length-set m.workers w x ∙ r.staff;
-      workers = λ i u e working k number. ⊎_elim
-          (λ h.
-          let numbers : v'.numbers ≡ u.numbers = ap (λ (z : View). z.numbers) h.1 in
-          let same : k ≡ w = head_is k w u.numbers number (sym numbers ∙ named ∙ mine) in
-          ap (slice_get (set m.workers w x)) same ∙ set_here m.workers w x (within m.workers w (status v) (r.workers id v at works w mine)) ∙ ap (λ s. Some s) (sym is ∙ ap status h.1))
-          (λ h. set_else m.workers w k x (apart w mine i u h.1 h.0 k number) ∙ r.workers i u h.1 working k number)
-          (at_set vs id i v' u e);
+      staff = staff;
+      workers = shown;
       long = r.long;
       back = λ i u e j g e'. ⊎_elim
           (λ h. r.back id v at j g (ap (λ (l : List Gave). get_elem? l j) (sym given ∙ ap (λ (z : View). z.given) h.1) ∙ e'))
@@ -94,25 +89,29 @@ module _ (fit : LayerInput → Type 0) (value : LayerInput → LayerOut) where
       open_yet = λ k below h. r.open_yet k below (sym (total-kept (λ (z : View). times_given k z.given) vs id v v' at (ap (times_given k) given)) ∙ h);
     }
 
-    -- and has the status that it had
+    -- and has another status
+    shows_worker : (m : Machine) (w : ℕ) (x : Status) (v' : View) → v.numbers ≡ w ∷ [] → v'.numbers ≡ v.numbers → v'.given ≡ v.given → status v' ≡ x → (ticket : ℕ) → Shows m p n ticket vs
+        → Shows (record m { workers = set m.workers w x }) p n ticket (set vs id v')
+    shows_worker m w x v' mine named given is ticket r =
+        shows_with m (set m.workers w x) v' given (length-set m.workers w x ∙ r.staff)
+        (λ i u e working k number. ⊎_elim
+          (λ h.
+          let numbers : v'.numbers ≡ u.numbers = ap (λ (z : View). z.numbers) h.1 in
+          let same : k ≡ w = head_is k w u.numbers number (sym numbers ∙ named ∙ mine) in
+          ap (slice_get (set m.workers w x)) same ∙ set_here m.workers w x (within m.workers w (status v) (r.workers id v at works w mine)) ∙ ap (λ s. Some s) (sym is ∙ ap status h.1))
+          (λ h. set_else m.workers w k x (apart w mine i u h.1 h.0 k number) ∙ r.workers i u h.1 working k number)
+          (at_set vs id i v' u e))
+        ticket r
+
+    -- or the status that it had
     shows_same : (m : Machine) (v' : View) → v'.posts ≡ false → v'.numbers ≡ v.numbers → v'.given ≡ v.given → status v' ≡ status v → (ticket : ℕ) → Shows m p n ticket vs → Shows m p n ticket (set vs id v')
-    shows_same m v' working' named given is ticket r = record {
-      slots = r.slots;
-      posted = r.posted;
-      closed = r.closed;
-      next = r.next;
-      staff = r.staff;
-      workers = λ i u e working k number. ⊎_elim
+    shows_same m v' working' named given is ticket r =
+        shows_with m m.workers v' given r.staff
+        (λ i u e working k number. ⊎_elim
           (λ h. r.workers id v at works k (sym named ∙ ap (λ (z : View). z.numbers) h.1 ∙ number) ∙ ap (λ s. Some s) (sym is ∙ ap status h.1))
           (λ h. r.workers i u h.1 working k number)
-          (at_set vs id i v' u e);
-      long = r.long;
-      back = λ i u e j g e'. ⊎_elim
-          (λ h. r.back id v at j g (ap (λ (l : List Gave). get_elem? l j) (sym given ∙ ap (λ (z : View). z.given) h.1) ∙ e'))
-          (λ h. r.back i u h.1 j g e')
-          (at_set vs id i v' u e);
-      open_yet = λ k below h. r.open_yet k below (sym (total-kept (λ (z : View). times_given k z.given) vs id v v' at (ap (times_given k) given)) ∙ h);
-    }
+          (at_set vs id i v' u e))
+        ticket r
 
     pub shown_draw : v.held ≡ [] → v.got ≡ [] → v.over ≡ false → Shown value p n w1 vs → Shown value p n (w1 + 1) (set vs id (after_draw v w1))
     shown_draw free empty going z =

@@ -22,7 +22,7 @@ use Rattle.rs01_linear.specs.declared.fate.Fate.TheVariants as fate
 use Rattle.rs01_linear.proofs.LastingLemmas.{drive_there, same_lasts}
 use Rattle.rs01_linear.proofs.RoseLemmas.{same_rose}
 use Rattle.rs01_turns.specs.Moments.{Moment, Setting, asking_of, bytes_at, fate_at, image_at, known_at, length_at, unread_at}
-use Rattle.rs01_turns.specs.Leads.{Became, IsOnce, IsBlend, IsWritten, Leads, SameAt, SameDesk, SameDrives, SameFiles, SameRest, Stays, unanswered}
+use Rattle.rs01_turns.specs.Leads.{Became, GivenOnce, GivesOn, IsOnce, IsBlend, IsWritten, Leads, SameAt, SameDesk, SameDrives, SameFiles, SameRest, Stays, unanswered}
 use Rattle.rs01_turns.specs.Laws.{GiveLeads, LeadsOn, LookLeads, ReadLeads, ReadyOn}
 
 -- the drives
@@ -276,9 +276,11 @@ once-push (k ∷ ls) l once none = (
   once-push ls l once.1 (λ c. none (Contains-later k ls l c)),
 )
 
-pub give-leads : GiveLeads
-give-leads f l there fresh =
-    let g : Moment = record f { given = f.given ++ l ∷ [] } in
+-- where only given layers and the layers that were looked at change, it is those that count
+only-given-leads : (f : Moment) (given : List ℕ) (first : ℕ) → GivesOn f.given given
+    → (GivenOnce f → GivenOnce (record f { given = given; first = first })) → Leads f (record f { given = given; first = first })
+only-given-leads f given first on once =
+    let g : Moment = record f { given = given; first = first } in
     record {
       start = record { setting = refl; kept_reads = refl; kept_writes = refl; all = refl; fated = refl };
       drives = same-drives f g refl refl;
@@ -286,29 +288,25 @@ give-leads f l there fresh =
       rest = λ t. record { end = refl; asks = refl; asking = λ s a b. refl };
       stays = λ s h. record { state_same = refl; same = record { fate_same = refl; bytes_same = λ t. refl } };
       became = λ s h. unread-same f g s (state_of f.states s) h (record { fate_same = refl; bytes_same = λ t. refl });
-      gives_on = (l ∷ [], refl);
-      given_once = λ o. record {
-        once = once-push f.given l o.once fresh;
-        there = λ k c. ⊎_elim
-            (λ in_. o.there k in_)
-            (λ at. subst (λ (j : ℕ). j < layer_count f.setting.terms.shape) (sym (one-element l k at)) there)
-            (Contains-append_cases f.given (l ∷ []) k c);
-      };
+      gives_on = on;
+      given_once = once;
     }
+
+pub give-leads : GiveLeads
+give-leads f l there fresh =
+    only-given-leads f (f.given ++ l ∷ []) f.first (l ∷ [], refl)
+    (λ o. record {
+      once = once-push f.given l o.once fresh;
+      there = λ k c. ⊎_elim
+          (λ in_. o.there k in_)
+          (λ at. subst (λ (j : ℕ). j < layer_count f.setting.terms.shape) (sym (one-element l k at)) there)
+          (Contains-append_cases f.given (l ∷ []) k c);
+    })
 
 pub look-leads : LookLeads
 look-leads f first =
-    let g : Moment = record f { first = first } in
-    record {
-      start = record { setting = refl; kept_reads = refl; kept_writes = refl; all = refl; fated = refl };
-      drives = same-drives f g refl refl;
-      desk = same-desk f g refl refl;
-      rest = λ t. record { end = refl; asks = refl; asking = λ s a b. refl };
-      stays = λ s h. record { state_same = refl; same = record { fate_same = refl; bytes_same = λ t. refl } };
-      became = λ s h. unread-same f g s (state_of f.states s) h (record { fate_same = refl; bytes_same = λ t. refl });
-      gives_on = ([], sym (append-nil f.given));
-      given_once = λ o. record { once = o.once; there = o.there };
-    }
+    only-given-leads f f.given first ([], sym (append-nil f.given))
+    (λ o. record { once = o.once; there = o.there })
 
 pub read-leads : ReadLeads
 read-leads f desk failed only =

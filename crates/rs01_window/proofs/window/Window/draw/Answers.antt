@@ -1,7 +1,8 @@
-use Rattle.std.proofs.Common.{arith, ◌≡◌, ◌+◌, ◌≤◌, length, Some, slice_get, sym, subst, length-set}
+use Rattle.std.proofs.Common.{arith, ◌≡◌, ◌+◌, ◌≤◌, length, Some, slice_get, sym, subst, length-set, refl}
 use Rattle.rs01_window.specs.Machine.{Machine, machine_of, IsIdle}
 use Rattle.rs01_window.specs.declared.status.Status.TheVariants.{Idle, Waits}
 use Rattle.rs01_window.proofs.SoundEvents.{few, sound_draw}
+use Rattle.rs01_window.proofs.KeptLemmas.{kept_on}
 use Rattle.rs01_window.proofs.window.Window.draw.Goals as goal
 
 pub overflow_add-self : goal.overflow_add-self
@@ -16,12 +17,5 @@ invariant_of-self g c =
     let f = c.self.inside in
     let m : Machine = machine_of f.slots f.posted.items f.closed f.next f.workers.items f.results.items in
     let at : IsIdle m c.args.worker = subst (λ (z : Machine). IsIdle z c.args.worker) (sym c.self.view_is) c.requires in
-    let long = length-set f.workers.items c.args.worker (Waits f.next) in
-    record {
-      some_slot = c.self.invariant.some_slot;
-      some_worker = omega (arith, c.self.invariant.some_worker, long);
-      few_workers = omega (arith, c.self.invariant.few_workers, long);
-      posted_fit = c.self.invariant.posted_fit;
-      results_fit = c.self.invariant.results_fit;
-      sound = sound_draw g.T.LayerTask.value m c.self.invariant.sound c.args.worker at;
-    }
+    kept_on g.T.LayerTask.value m _ _ _ c.self.invariant refl (length-set f.workers.items c.args.worker (Waits f.next))
+    (sound_draw g.T.LayerTask.value m c.self.invariant.sound c.args.worker at)

@@ -1,8 +1,9 @@
-use Rattle.std.proofs.Common.{arith, rules, ◌≡◌, Some, slice_get, sym, subst, length-set}
+use Rattle.std.proofs.Common.{arith, rules, ◌≡◌, Some, slice_get, sym, subst, length-set, refl}
 use Rattle.rs01_window.specs.Machine.{Machine, machine_of}
 use Rattle.rs01_window.specs.declared.status.Status.TheVariants.{Waits, Holds, Over}
 use Rattle.rs01_window.proofs.ListLemmas.{within}
 use Rattle.rs01_window.proofs.SoundEvents.{sound_got, sound_over}
+use Rattle.rs01_window.proofs.KeptLemmas.{kept_on}
 use Rattle.rs01_window.proofs.window.Window.take_at.Goals as goal
 
 pub invariant_of-self : goal.invariant_of-self
@@ -11,15 +12,8 @@ invariant_of-self g c =
     let w = c.args.worker in
     let m : Machine = machine_of f.slots f.posted.items f.closed f.next f.workers.items f.results.items in
     let at : slice_get m.workers w ≡ Some (Waits c.args.ticket) = subst (λ (z : Machine). slice_get z.workers w ≡ Some (Waits c.args.ticket)) (sym c.self.view_is) c.requires in
-    let long = length-set f.workers.items w (Holds c.args.ticket) in
-    record {
-      some_slot = c.self.invariant.some_slot;
-      some_worker = omega (arith, c.self.invariant.some_worker, long);
-      few_workers = omega (arith, c.self.invariant.few_workers, long);
-      posted_fit = c.self.invariant.posted_fit;
-      results_fit = c.self.invariant.results_fit;
-      sound = sound_got g.T.LayerTask.value m c.self.invariant.sound w c.args.ticket at (search rules);
-    }
+    kept_on g.T.LayerTask.value m _ _ _ c.self.invariant refl (length-set f.workers.items w (Holds c.args.ticket))
+    (sound_got g.T.LayerTask.value m c.self.invariant.sound w c.args.ticket at (search rules))
 
 pub index_mut-requires-then-self : goal.index_mut-requires-then-self
 index_mut-requires-then-self g c =
@@ -35,12 +29,5 @@ invariant_of-self-then-self g c =
     let w = c.args.worker in
     let m : Machine = machine_of f.slots f.posted.items f.closed f.next f.workers.items f.results.items in
     let at : slice_get m.workers w ≡ Some (Waits c.args.ticket) = subst (λ (z : Machine). slice_get z.workers w ≡ Some (Waits c.args.ticket)) (sym c.self.view_is) c.requires in
-    let long = length-set f.workers.items w Over in
-    record {
-      some_slot = c.self.invariant.some_slot;
-      some_worker = omega (arith, c.self.invariant.some_worker, long);
-      few_workers = omega (arith, c.self.invariant.few_workers, long);
-      posted_fit = c.self.invariant.posted_fit;
-      results_fit = c.self.invariant.results_fit;
-      sound = sound_over g.T.LayerTask.value m c.self.invariant.sound w c.args.ticket at (search rules) (search rules);
-    }
+    kept_on g.T.LayerTask.value m _ _ _ c.self.invariant refl (length-set f.workers.items w Over)
+    (sound_over g.T.LayerTask.value m c.self.invariant.sound w c.args.ticket at (search rules) (search rules))
