@@ -18,3 +18,6 @@ mod working;
 
 pub use given::{Given, Taken, Ticket};
 pub use seats::{Poster, Seats, WindowTable, Worker};
+
+#[cfg(test)]
+mod tests;
