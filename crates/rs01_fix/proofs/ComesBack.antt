@@ -25,7 +25,7 @@ use Rattle.rs01_repair.specs.Intact.{HasTheOthers, IsProtected, Protects, gone_i
 use Rattle.rs01_repair.specs.Restored.{is_restored, restored_at}
 use Rattle.rs01_repair.proofs.CorrectLemmas.{answer_has_blocks, placed_has}
 use Rattle.rs01_repair.proofs.Counts.{same_kept}
-use Rattle.rs01_repair.proofs.HeldLemmas.{present}
+use Rattle.rs01_repair.proofs.FoundLemmas.{present}
 use Rattle.rs01_repair.proofs.InputLemmas.{flag_of_sector}
 use Rattle.rs01_repair.proofs.Intact.{C, N, beyond_answer, is_of_image, protects_says, shape_of, within_answer}
 use Rattle.rs01_fix.specs.declared.refusal.FixRefusal.{FixRefusal}

@@ -1,7 +1,7 @@
 -- What is answered, from what was found of the two files.
 use Rattle.std.proofs.Common.{◌≡◌, ℕ, List, [], length, refl, sym, ap, subst, ◌∙◌, arith, inl, Bool, true, false, drop, take}
 use Rattle.std.specs.Prelude.{Option, Some, None, Result, Ok, Err, IsOkAnd, IsOk, IsSomeAnd, IsTrue, nat_lt, not, ◌==◌, cond}
-use Rattle.std.specs.Option.{unwrap_or}
+use Rattle.std.specs.Option.{option_map, unwrap_or}
 use Rattle.std.specs.Str.{bytes_eq}
 use Rattle.md5.specs.Md5.{md5}
 use Rattle.std.proofs.lemmas.Bool.{eqb-true}
@@ -16,11 +16,9 @@ use Rattle.rs01_ecchead.specs.declared.opened.EccRefusal.TheVariants as ecc
 use Rattle.rs01_ecchead.specs.declared.opened.Which.TheVariants.{Image}
 use Rattle.rs01_report.specs.declared.reports.FixReport.{FixReport}
 use Rattle.rs01_ecchead.specs.declared.opened.Ecc.{Ecc}
-use Rattle.rs01_ecchead.specs.Walked.{walk_refusal}
-use Rattle.rs01_ecchead.specs.declared.walk.WalkFault.{WalkFault}
-use Rattle.rs01_ecchead.specs.declared.walk.WalkFault.TheVariants as walk
-use Rattle.rs01_repair.specs.declared.held.Held.{Held}
-use Rattle.rs01_fix.specs.Steps.{HasEcc, IsHeld}
+use Rattle.rs01_repair.specs.declared.found.Found.{Found}
+use Rattle.rs01_repair.specs.Finding.{HasEcc}
+use Rattle.rs01_fix.specs.Steps.{IsFoundIn}
 use Rattle.rs01_fix.specs.Between.{IsBetween}
 use Rattle.rs01_fix.specs.Repair.{fixed, report_of}
 use Rattle.rs01_fix.specs.Answer.{MayStand, Repaired, answer_with, fix_answer, refusal_of, repaired}
@@ -81,12 +79,12 @@ opened_size (Some file) c e =
     size_by_head (head_of (take 4096 file)) file c (size_by_len (nat_lt (length file) 4096) (length file) (opened_with (head_of (take 4096 file)) file) c e)
 
 -- the error correction file is there after a call that only read, as it was when it was opened
-pub ecc_is : (held : Held) (old new : DeskState) (name : List ℕ) → OnlyReads old new false → IsTrue old.tells
-    → opened_file (old.files name) ≡ Ok (opened_as held.ecc (bytes_of old.files name)) → HasEcc held (bytes_of old.files name) new name
-ecc_is held old new name reads t says = record {
+pub ecc_is : (found : Found) (old new : DeskState) (name : List ℕ) → OnlyReads old new false → IsTrue old.tells
+    → opened_file (old.files name) ≡ Ok (opened_as found.ecc (bytes_of old.files name)) → HasEcc found (bytes_of old.files name) new name
+ecc_is found old new name reads t says = record {
   tells = subst IsTrue (sym reads.tells) t;
   bytes = ap (λ (f : Files). bytes_of f name) (reads.unchanged t);
-  whole = opened_size (old.files name) (opened_as held.ecc (bytes_of old.files name)) says;
+  whole = opened_size (old.files name) (opened_as found.ecc (bytes_of old.files name)) says;
 }
 
 -- the file that wasn't changed may stand
@@ -158,31 +156,26 @@ ends_underway image ecc cut old new result why told c y e same of ok there way =
 pub is_ok_answer : (a : Result Repaired FixRefusal) (v : Repaired) → a ≡ Ok v → IsOk a
 is_ok_answer a v e = subst (λ (a : Result Repaired FixRefusal). IsOk a) (sym e) refl
 
--- a fault of reading is no refusal of the files
-unread : (why : WalkFault) → IsOfFiles (refusal_of (walk_refusal why)) → ⊥
-unread walk.ReadFault of = of
-unread walk.OutOfMemory of = of
+-- the ways that finding an image ends: the error correction file isn't opened, the image isn't measured or memory lacks,
+-- and it is found
+pub found_unopened : (ecc image : Option (List ℕ)) (result : Result Found FixRefusal) (why : EccRefusal) (told : FixRefusal) → result ≡ Err told → told ≡ refusal_of why
+    → (IsOfFile why → opened_file ecc ≡ Err why) → IsFoundIn ecc image result
+found_unopened ecc image result why told e same h =
+    subst (λ (r : Result Found FixRefusal). IsFoundIn ecc image r) (sym e) (λ cut of. by_ecc ecc image cut why told same of h)
 
--- the ways that holding an image ends: the error correction file isn't opened, the image isn't read, memory lacks, and it
--- is held
-pub held_unopened : (ecc image : Option (List ℕ)) (result : Result Held FixRefusal) (why : EccRefusal) (told : FixRefusal) → result ≡ Err told → told ≡ refusal_of why
-    → (IsOfFile why → opened_file ecc ≡ Err why) → IsHeld ecc image result
-held_unopened ecc image result why told e same h =
-    subst (λ (r : Result Held FixRefusal). IsHeld ecc image r) (sym e) (λ cut of. by_ecc ecc image cut why told same of h)
+pub found_lacking : (ecc image : Option (List ℕ)) (result : Result Found FixRefusal) (told : FixRefusal) → result ≡ Err told → told ≡ OutOfMemory → IsFoundIn ecc image result
+found_lacking ecc image result told e same =
+    subst (λ (r : Result Found FixRefusal). IsFoundIn ecc image r) (sym (e ∙ ap (λ (w : FixRefusal). let r : Result Found FixRefusal = Err w in r) same)) (λ cut of. absurd of)
 
-pub held_unread : (ecc image : Option (List ℕ)) (result : Result Held FixRefusal) (why : WalkFault) (told : FixRefusal) → result ≡ Err told
-    → told ≡ refusal_of (walk_refusal why) → IsHeld ecc image result
-held_unread ecc image result why told e same =
-    subst (λ (r : Result Held FixRefusal). IsHeld ecc image r) (sym (e ∙ ap (λ (w : FixRefusal). let r : Result Held FixRefusal = Err w in r) same)) (λ cut of. absurd (unread why of))
-
-pub held_lacking : (ecc image : Option (List ℕ)) (result : Result Held FixRefusal) (told : FixRefusal) → result ≡ Err told → told ≡ OutOfMemory → IsHeld ecc image result
-held_lacking ecc image result told e same =
-    subst (λ (r : Result Held FixRefusal). IsHeld ecc image r) (sym (e ∙ ap (λ (w : FixRefusal). let r : Result Held FixRefusal = Err w in r) same)) (λ cut of. absurd of)
-
-pub held_whole : (f0 f1 : Files) (ecc image : List ℕ) (held : Held) (opened : Ecc) (bytes : List ℕ) → opened_file (f0 ecc) ≡ Ok (opened_as opened (unwrap_or (f0 ecc) []))
-    → f1 ≡ f0 → f1 image ≡ Some bytes → held.ecc ≡ opened → held.image.items ≡ bytes
-    → (opened_file (f0 ecc) ≡ Ok (opened_as held.ecc (unwrap_or (f0 ecc) []))) × (f0 image ≡ Some held.image.items)
-held_whole f0 f1 ecc image held opened bytes says still there own items = (
+pub found_whole : (f0 f1 : Files) (ecc image : List ℕ) (found : Found) (opened : Ecc) (size : ℕ) → opened_file (f0 ecc) ≡ Ok (opened_as opened (unwrap_or (f0 ecc) []))
+    → f1 ≡ f0 → Some size ≡ option_map length (f1 image) → found.ecc ≡ opened → found.size ≡ size
+    → (opened_file (f0 ecc) ≡ Ok (opened_as found.ecc (unwrap_or (f0 ecc) []))) × (option_map length (f0 image) ≡ Some found.size)
+found_whole f0 f1 ecc image found opened size says still there own same = (
   says ∙ (λ i. Ok (opened_as (sym own i) (unwrap_or (f0 ecc) []))),
-  ap (λ (f : Files). f image) (sym still) ∙ there ∙ ap Some (sym items),
+  ap (λ (f : Files). option_map length (f image)) (sym still) ∙ sym there ∙ ap Some (sym same),
 )
+
+-- a file that was measured is there
+pub measured : (o : Option (List ℕ)) (n : ℕ) → option_map length o ≡ Some n → (y : List ℕ) × (o ≡ Some y) × (length y ≡ n)
+measured None n e = absurd (let h : ⊥ = cc in h)
+measured (Some y) n e = (y, refl, (let h : length y ≡ n = cc in h))

@@ -16,7 +16,7 @@ use Rattle.rs01_repair.specs.Intact.{Protects, gone_in, is_beyond, is_gone}
 use Rattle.rs01_repair.specs.Restored.{is_restored}
 use Rattle.rs01_repair.proofs.CorrectLemmas.{answer_has_blocks}
 use Rattle.rs01_repair.proofs.Counts.{erased_less}
-use Rattle.rs01_repair.proofs.HeldLemmas.{present, reaches}
+use Rattle.rs01_repair.proofs.FoundLemmas.{present, reaches}
 use Rattle.rs01_repair.proofs.Intact.{is_of_image, protects_says}
 use Rattle.rs01_fix.specs.Answer.{MayStand, Repaired, fix_answer, repaired}
 use Rattle.rs01_fix.specs.Between.{IsBetween}
@@ -32,7 +32,7 @@ use Rattle.rs01_fix.proofs.ProgressLemmas.{ends_within}
 there_still : (known : Known) (z : List ℕ) (s : ℕ) → 2048 * s + length_of known.sectors known.last_bytes s ≤ length z → is_absent known z s ≡ false
 there_still known z s h = le-ltb (length z) (2048 * s + length_of known.sectors known.last_bytes s) h
 
-same_block : (known : Known) (y z : List ℕ) (s : ℕ) → 2048 * s + length_of known.sectors known.last_bytes s ≤ length y
+pub same_block : (known : Known) (y z : List ℕ) (s : ℕ) → 2048 * s + length_of known.sectors known.last_bytes s ≤ length y
     → 2048 * s + length_of known.sectors known.last_bytes s ≤ length z
     → ((j : ℕ) → j < length_of known.sectors known.last_bytes s → get_or z (2048 * s + j) 0 ≡ get_or y (2048 * s + j) 0)
     → block_in known z s ≡ block_in known y s

@@ -1,5 +1,4 @@
-mod HeldLemmas
-mod AnswerLemmas
+mod FoundLemmas
 mod PutLemmas
 mod ProgressLemmas
 mod OrderLemmas
@@ -10,3 +9,7 @@ mod ToldLemmas
 mod FileLemmas
 mod ComesBack
 mod GoesOn
+mod Later
+mod WindowLemmas
+mod CourseLemmas
+mod EngineLemmas

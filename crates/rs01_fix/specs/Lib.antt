@@ -5,4 +5,6 @@ pub mod Answer
 pub mod Outcome
 pub mod Steps
 pub mod Places
+pub mod Windows
+pub mod GoingOn
 pub mod ComesBack

@@ -1,61 +1,61 @@
 //! Putting the sectors of a layer in place.
 ghost use Rattle.std.specs.Prelude.{◌≡◌, ◌+◌, ◌<◌, length};
 ghost use Rattle.std.specs.Option.{ForSome, option_copied};
-ghost use Rattle.rs01_repair.specs.Holding.{HasBlocksOf, IsLayer};
-ghost use Rattle.rs01_fix.specs.Places.{IsPlaceOf, PutsOn, PutsSector};
+ghost use Rattle.rs01_repair.specs.Finding.{IsLayer, IsPlaceOf};
+ghost use Rattle.rs01_fix.specs.Places.{HasWholeBlocks, PutsOn, PutsSector};
 
 use rs01_layers::LayerOut;
 use rs01_outside::{Desk, Failed};
-use rs01_repair::{Held, restored_block};
+use rs01_repair::{Found, restored_block};
 use rs01_sums::marker;
 
 // Puts the bytes of a sector in place.
 fn write_sector<D: Desk>(
     desk: &mut D,
     name: &str,
-    held: &Held,
+    found: &Found,
     sector: u32,
     block: &[u8],
 ) -> Result<(), Failed>
-    requires sector { sector < held.now.ecc.head.sectors }
+    requires sector { sector < found.now.ecc.head.sectors }
     requires block { length block.now ≡ 2048 }
-    ensures { PutsSector held.now sector (Some block.now) name.now
+    ensures { PutsSector found.now sector (Some block.now) name.now
         (D.state desk.old) (D.state desk.new) result }
 {
-    let length = held.ecc.extent().length(sector) as usize;
+    let length = found.ecc.extent().length(sector) as usize;
     desk.write_at(name, 2048 * u64::from(sector), &block[..length])
 }
 
-// Puts the marker of a sector in place, where it is absent.
-fn put_marker<D: Desk>(desk: &mut D, name: &str, held: &Held, sector: u32) -> Result<(), Failed>
-    requires { sector < held.now.ecc.head.sectors }
-    ensures { PutsSector held.now sector None name.now
+// Puts the marker of a sector in place, where it was absent.
+fn put_marker<D: Desk>(desk: &mut D, name: &str, found: &Found, sector: u32) -> Result<(), Failed>
+    requires { sector < found.now.ecc.head.sectors }
+    ensures { PutsSector found.now sector None name.now
         (D.state desk.old) (D.state desk.new) result }
 {
-    if !held.is_absent(sector) {
+    if !found.is_absent(sector) {
         return Ok(());
     }
     let mut block = [0u8; 2048];
     marker(sector, &mut block);
-    write_sector(desk, name, held, sector, &block)
+    write_sector(desk, name, found, sector, &block)
 }
 
 // Puts a sector in place, which may have a restored block.
 fn put_sector<D: Desk>(
     desk: &mut D,
     name: &str,
-    held: &Held,
+    found: &Found,
     sector: u32,
     block: Option<&[u8]>,
 ) -> Result<(), Failed>
-    requires sector { sector < held.now.ecc.head.sectors }
+    requires sector { sector < found.now.ecc.head.sectors }
     requires block { ForSome block (λ bytes. length bytes.now ≡ 2048) }
-    ensures { PutsSector held.now sector (option_copied block.entry) name.now
+    ensures { PutsSector found.now sector (option_copied block.entry) name.now
         (D.state desk.old) (D.state desk.new) result }
 {
     match block {
-        Some(bytes) => write_sector(desk, name, held, sector, bytes),
-        None => put_marker(desk, name, held, sector),
+        Some(bytes) => write_sector(desk, name, found, sector, bytes),
+        None => put_marker(desk, name, found, sector),
     }
 }
 
@@ -63,18 +63,18 @@ fn put_sector<D: Desk>(
 fn put_place<D: Desk>(
     desk: &mut D,
     name: &str,
-    held: &Held,
+    found: &Found,
     layer: u32,
     place: u32,
     answer: &LayerOut,
 ) -> Result<(), Failed>
-    requires place { IsPlaceOf held.now layer place }
-    requires blocks { HasBlocksOf held.now layer answer.now }
-    ensures { PutsOn held.now answer.now layer place layer (place + 1) name.now
+    requires place { IsPlaceOf found.now layer place }
+    requires blocks { HasWholeBlocks answer.now }
+    ensures { PutsOn found.now answer.now layer place layer (place + 1) name.now
         (D.state desk.old) (D.state desk.new) result }
 {
-    match held.ecc.shape().sector_at(layer, place) {
-        Some(sector) => put_sector(desk, name, held, sector, restored_block(answer, place)),
+    match found.ecc.shape().sector_at(layer, place) {
+        Some(sector) => put_sector(desk, name, found, sector, restored_block(answer, place)),
         None => Ok(()),
     }
 }
@@ -83,17 +83,17 @@ fn put_place<D: Desk>(
 pub fn put_layer<D: Desk>(
     desk: &mut D,
     name: &str,
-    held: &Held,
+    found: &Found,
     layer: u32,
     answer: &LayerOut,
 ) -> Result<(), Failed>
-    requires layer { IsLayer held.now layer }
-    requires blocks { HasBlocksOf held.now layer answer.now }
-    ensures { PutsOn held.now answer.now layer 0 (layer + 1) 0 name.now
+    requires layer { IsLayer found.now layer }
+    requires blocks { HasWholeBlocks answer.now }
+    ensures { PutsOn found.now answer.now layer 0 (layer + 1) 0 name.now
         (D.state desk.old) (D.state desk.new) result }
 {
-    for place in 0..held.ecc.shape().data() {
-        put_place(desk, name, held, layer, place, answer)?;
+    for place in 0..found.ecc.shape().data() {
+        put_place(desk, name, found, layer, place, answer)?;
     }
     Ok(())
 }

@@ -1,14 +1,58 @@
-//! A small image that is repaired.
+//! Images of zeros that are repaired.
+ghost use Rattle.std.specs.Prelude.{◌≤◌};
+
 use super::*;
 use md5::{Digest, Md5};
-use rs01_ecchead::{HeadRefusal, Which};
-use rs01_fakes::{MemoryDesk, sample_desk, sample_ecc};
+use rs01_ecchead::{Head, HeadRefusal, Which, write_head};
+use rs01_fakes::MemoryDesk;
+use rs01_lists::{push_zeros, zeroed};
 use rs01_outside::Desk;
 use rs01_report::{FixReport, Strange, Why};
-use rs01_sums::marker;
-use std::alloc::Global;
+use rs01_sums::{crc32, marker};
+use std::alloc::{AllocError, Global};
 use std::process::Abort;
 use std::test::Fail;
+
+// The error correction file of an image of so many sectors of zeros, whose parity is zeros too.
+fn ecc_bytes(alloc: Global, sectors: u32, parity: u32) -> Result<Vec<u8>, AllocError>
+    requires sectors { (1 ≤ sectors) × (sectors ≤ 16777215) }
+    requires parity { (8 ≤ parity) × (parity ≤ 100) }
+{
+    let block = [0u8; 2048];
+    let sum = crc32(&block).to_le_bytes();
+    let mut body = Vec::new(alloc);
+    for _sector in 0..sectors {
+        body.extend_from_slice(&sum)?;
+    }
+    let layers = (sectors + (254 - parity)) / (255 - parity);
+    push_zeros(2048 * parity as usize * layers as usize, &mut body)?;
+    let head = Head {
+        flags: 0,
+        fingerprint: Md5::digest(&block),
+        image_sum: Md5::digest(&block),
+        body_sum: Md5::digest(&body),
+        sectors,
+        parity,
+        creator: 1,
+        needed: 1,
+        mark_sector: 0,
+        last_bytes: 2048,
+    };
+    let mut header = [0u8; 4096];
+    write_head(&head, &mut header);
+    let mut bytes = Vec::new(alloc);
+    bytes.extend_from_slice(&header)?;
+    bytes.extend_from_slice(&body)?;
+    Ok(bytes)
+}
+
+// A desk with that image and its error correction file.
+fn protected(alloc: Global) -> Result<MemoryDesk, AllocError> {
+    let mut desk = MemoryDesk::new(alloc);
+    desk.put_file(alloc, "disc.iso", &[0u8; 20_480])?;
+    desk.put_file(alloc, "disc.ecc", &ecc_bytes(alloc, 10, 8)?)?;
+    Ok(desk)
+}
 
 // A file is cut, and then bytes are put at a place of it.
 fn change(desk: &mut MemoryDesk, name: &str, len: u64, at: u64, bytes: &[u8]) -> bool {
@@ -82,7 +126,7 @@ fn images_come_back(rt: HostRuntime) -> Result<(), Fail> {
         },
         Row { cut: true, ..WHOLE },
     ] {
-        let mut desk = sample_desk(rt.alloc())?;
+        let mut desk = protected(rt.alloc())?;
         assert!(rt; change(&mut desk, "disc.iso", row.len, row.at, row.bytes));
         let report = fix(rt.alloc(), &mut desk, row.cut)?;
         assert!(rt; report.restored.items() == row.restored);
@@ -96,12 +140,12 @@ fn images_come_back(rt: HostRuntime) -> Result<(), Fail> {
 // Nine of ten sectors are gone, which is one more than there are parity bytes: those that are absent get their markers.
 #[test]
 fn markers_of_absent_sectors(rt: HostRuntime) -> Result<(), Fail> {
-    let mut desk = sample_desk(rt.alloc())?;
+    let mut desk = protected(rt.alloc())?;
     assert!(rt; change(&mut desk, "disc.iso", 2053, 0, b""));
     let report = fix(rt.alloc(), &mut desk, false)?;
     assert!(rt; report.restored.len() == 0 && report.strange.len() == 0);
     assert!(rt; report.lost.items() == [1u32, 2, 3, 4, 5, 6, 7, 8, 9].as_slice());
-    let mut want = sample_desk(rt.alloc())?;
+    let mut want = protected(rt.alloc())?;
     let mut block = [0u8; 2048];
     for sector in 1..10 {
         marker(sector, &mut block);
@@ -132,7 +176,7 @@ fn strange_layers(rt: HostRuntime) -> Result<(), Fail> {
         (4096 + 4 * 3, &[3], Why::Sum(3)),
     ];
     for (at, lost, why) in cases {
-        let mut desk = sample_desk(rt.alloc())?;
+        let mut desk = protected(rt.alloc())?;
         assert!(rt; change_ecc(&mut desk, at));
         let report = fix(rt.alloc(), &mut desk, false)?;
         assert!(rt; report.strange.items() == [Strange { layer: 0, why }].as_slice());
@@ -167,7 +211,7 @@ fn refusals(rt: HostRuntime) -> Result<(), Fail> {
         (20_520, 0, b"+", FixRefusal::Head(HeadRefusal::Cookie)),
     ];
     for (len, at, bytes, want) in cases {
-        let mut desk = sample_desk(rt.alloc())?;
+        let mut desk = protected(rt.alloc())?;
         assert!(rt; change(&mut desk, "disc.ecc", len, at, bytes));
         assert!(rt;
             fix(rt.alloc(), &mut desk, false).err() == Some(want),
@@ -178,19 +222,20 @@ fn refusals(rt: HostRuntime) -> Result<(), Fail> {
     let mut desk = MemoryDesk::new(rt.alloc());
     let absent = fix(rt.alloc(), &mut desk, false).err();
     assert!(rt; absent == Some(FixRefusal::NoFile(Which::Ecc)));
-    desk.put_file(rt.alloc(), "disc.ecc", &sample_ecc(rt.alloc())?)?;
+    desk.put_file(rt.alloc(), "disc.ecc", &ecc_bytes(rt.alloc(), 10, 8)?)?;
     let absent = fix(rt.alloc(), &mut desk, false).err();
     assert!(rt; absent == Some(FixRefusal::NoFile(Which::Image)));
     assert!(rt; desk.file("disc.iso").is_none());
     Ok(())
 }
 
-// The calls are size, header, checksums and parity of the one file, size and bytes of the other, the parity of the layer,
-// the writes of sectors 0 and 1, and the cut. After a fault a second repair goes on.
+// The calls are size, header, checksums and parity of the one file, the size of the other, its sectors one by one, since
+// they are places of one layer, the parity of the layer, the writes of sectors 0 and 1, and the cut. After a fault a
+// second repair goes on.
 #[test]
 fn each_call_failing_in_turn(rt: HostRuntime) -> Result<(), Fail> {
-    for call in 0..10 {
-        let mut desk = sample_desk(rt.alloc())?;
+    for call in 0..19 {
+        let mut desk = protected(rt.alloc())?;
         assert!(rt; change(&mut desk, "disc.iso", 20_480, 2047, b"!!"));
         assert!(rt; desk.write_at("disc.iso", 20_480, b"!").is_ok());
         let mut again = MemoryDesk::new(rt.alloc());
@@ -199,7 +244,7 @@ fn each_call_failing_in_turn(rt: HostRuntime) -> Result<(), Fail> {
         again.fail_call(call);
         again.keep_prefix(Some(100));
         let refused = fix(rt.alloc(), &mut again, true).err();
-        let reading = call < 7;
+        let reading = call < 16;
         let want = if reading {
             FixRefusal::ReadFault
         } else {
@@ -212,5 +257,45 @@ fn each_call_failing_in_turn(rt: HostRuntime) -> Result<(), Fail> {
         assert!(rt; fix(rt.alloc(), &mut again, true).is_ok());
         assert!(rt; is_zeros(&again, 20_480), "call {call}");
     }
+    Ok(())
+}
+
+// A desk with an image of so many sectors of zeros, of whose codewords 100 bytes are parity.
+fn large(alloc: Global, sectors: u32) -> Result<MemoryDesk, AllocError>
+    requires { (1 ≤ sectors) × (sectors ≤ 16777215) }
+{
+    let mut desk = MemoryDesk::new(alloc);
+    desk.put_file(alloc, "disc.iso", &zeroed(alloc, 2048 * sectors as usize)?)?;
+    desk.put_file(alloc, "disc.ecc", &ecc_bytes(alloc, sectors, 100)?)?;
+    Ok(desk)
+}
+
+// Repairs an image of so many sectors after a byte of three of them was changed, and looks at what is told.
+fn repair_three(rt: &impl Abort, alloc: Global, sectors: u32) -> Result<(), Fail>
+    requires { (100 ≤ sectors) × (sectors ≤ 16777215) }
+{
+    let mut desk = large(alloc, sectors)?;
+    let damaged = [63u32, 64, sectors - 1];
+    for sector in damaged {
+        let at = 2048 * u64::from(sector) + 2047;
+        assert!(rt; desk.write_at("disc.iso", at, b"!").is_ok());
+    }
+    let report = fix(alloc, &mut desk, false)?;
+    assert!(rt;
+        report.restored.items() == damaged.as_slice(),
+        "{sectors} sectors"
+    );
+    assert!(rt; report.lost.len() == 0 && report.strange.len() == 0);
+    assert!(rt; is_zeros(&desk, 2048 * sectors as usize));
+    Ok(())
+}
+
+// Images of 64, 65, 128 and 129 layers, of which 64 are read at a time.
+#[test]
+fn damage_at_the_edge_of_a_window(rt: HostRuntime) -> Result<(), Fail> {
+    repair_three(&rt, rt.alloc(), 9920)?;
+    repair_three(&rt, rt.alloc(), 9921)?;
+    repair_three(&rt, rt.alloc(), 19_840)?;
+    repair_three(&rt, rt.alloc(), 19_841)?;
     Ok(())
 }

@@ -89,7 +89,7 @@ found_among t (x ∷ xs) p e =
     ] in
     both (t x) e
 
-bad_sum_flagged : (blocks : List (List ℕ)) (flags : List Bool) (sums parity : List ℕ) (r p : ℕ) → correct_of blocks flags sums parity r ≡ BadSum p
+pub bad_sum_flagged : (blocks : List (List ℕ)) (flags : List Bool) (sums parity : List ℕ) (r p : ℕ) → correct_of blocks flags sums parity r ≡ BadSum p
     → get_or flags p false ≡ true
 unfolding correct_of first_bad_sum
 bad_sum_flagged blocks flags sums parity r p e =

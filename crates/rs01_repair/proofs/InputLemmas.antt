@@ -2,7 +2,7 @@
 use Rattle.std.proofs.Common.{◌≡◌, ℕ, ◌+◌, ◌-◌, ◌*◌, ◌<◌, ◌≤◌, List, [], length, take, drop, map, get_or, refl, sym, ap, ◌∙◌, arith, Bool, true, false, cond, ltb, eqb, ⊎_elim}
 use Rattle.std.specs.Prelude.{Some, None, ◌||◌, ◌&&◌, nat_lt, nat_eq, IsTrue}
 use Rattle.std.specs.List.{flat_map, range_with_len}
-use Rattle.std.proofs.lemmas.Bool.{false≢true, lt-ltb, le-ltb, cond-true, cond-false, cases_lt, cases_eq, eq-eqb, ne_eqb}
+use Rattle.std.proofs.lemmas.Bool.{false≢true, ltb-true, lt-ltb, le-ltb, cond-true, cond-false, cases_lt, cases_eq, eq-eqb, ne_eqb}
 use Rattle.std.proofs.lemmas.List.{get_or_past, length-map}
 use Rattle.std.proofs.lemmas.List.FromFn.{get_or-map-range_with_len, length-range_with_len}
 use Rattle.rs01_layers.specs.Sectors.{length_of}
@@ -156,7 +156,8 @@ unfolding sums_at
 sums_are f list l sums e = e
 
 -- the blocks of the places that aren't erased don't depend on those of the others
-pub same_where_held : (f : Fields) (block kept : ℕ → List ℕ) (gone : ℕ → Bool) (l : ℕ) → ((s : ℕ) → gone s ≡ false → kept s ≡ block s)
+pub same_where_held : (f : Fields) (block kept : ℕ → List ℕ) (gone : ℕ → Bool) (l : ℕ)
+    → ((p : ℕ) → p < 255 - f.parity → place_number f l p < f.sectors → gone (place_number f l p) ≡ false → kept (place_number f l p) ≡ block (place_number f l p))
     → AgreeWhereHeld (flags_at f gone l) (blocks_at f kept l) (blocks_at f block l)
 unfolding blocks_at flags_at block_at flag_at
 same_where_held f block kept gone l same p e =
@@ -167,7 +168,7 @@ same_where_held f block kept gone l same p e =
     let s = place_number f l p in
     let flag = get_or-map-range_with_len (λ q. nat_lt (place_number f l q) f.sectors && gone (place_number f l q)) 0 n p p false inside z in
     get_or-map-range_with_len (λ q. cond (nat_lt (place_number f l q) f.sectors) (kept (place_number f l q)) (padded 2048 [])) 0 n p p [] inside z
-    ∙ one (nat_lt s f.sectors) (gone s) (kept s) (block s) (padded 2048 []) (same s) (sym flag ∙ e)
+    ∙ one (nat_lt s f.sectors) (gone s) (kept s) (block s) (padded 2048 []) (λ there. same p inside (ltb-true s f.sectors there)) (sym flag ∙ e)
     ∙ sym (get_or-map-range_with_len (λ q. cond (nat_lt (place_number f l q) f.sectors) (block (place_number f l q)) (padded 2048 [])) 0 n p p [] inside z))
     (λ past.
     let long = length-blocks_at f kept l in
@@ -175,7 +176,7 @@ same_where_held f block kept gone l same p e =
     get_or_past (blocks_at f kept l) p [] (omega (arith, long)) ∙ sym (get_or_past (blocks_at f block l) p [] (omega (arith, also))))
     (cases_lt p n)
   where
-    one : (inside gone : Bool) (kept block zeros : List ℕ) → (gone ≡ false → kept ≡ block) → inside && gone ≡ false → cond inside kept zeros ≡ cond inside block zeros
+    one : (inside gone : Bool) (kept block zeros : List ℕ) → (inside ≡ true → gone ≡ false → kept ≡ block) → inside && gone ≡ false → cond inside kept zeros ≡ cond inside block zeros
     one true true kept block zeros h e = absurd (false≢true (sym e))
-    one true false kept block zeros h e = h e
+    one true false kept block zeros h e = h refl e
     one false gone kept block zeros h e = refl

@@ -1,10 +1,12 @@
 pub mod Numbered
 pub mod FlagLemmas
-mod ErasedLemmas
-pub mod HeldLemmas
+pub mod FoundLemmas
 pub mod InputLemmas
 pub mod PlacedLemmas
 pub mod CorrectLemmas
 pub mod Counts
 pub mod Intact
 pub mod Joined
+pub mod PartLemmas
+pub mod GivenLemmas
+pub mod ParityLemmas

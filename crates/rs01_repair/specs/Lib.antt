@@ -1,4 +1,6 @@
 pub mod Inputs
 pub mod Restored
-pub mod Holding
+pub mod Finding
+pub mod Parts
+pub mod Given
 pub mod Intact

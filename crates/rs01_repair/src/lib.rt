@@ -1,16 +1,17 @@
 //! The layers of a damaged image: which sectors are erased, what correcting is given of a layer, and what it answers.
 #![tactic(auto)]
 
-mod answer;
-mod erased;
-mod held;
-mod input;
+mod batch;
+mod found;
+mod given;
 pub mod laws;
+mod part;
+mod place;
 mod restored;
-mod sectors;
 
-pub use answer::answer_layer;
-pub use held::Held;
+pub use batch::Batch;
+pub use found::Found;
+pub use given::next_input;
 pub use restored::{layer_is_restored, restored_block};
 
 #[cfg(test)]

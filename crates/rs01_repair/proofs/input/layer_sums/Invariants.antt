@@ -1,8 +1,0 @@
-use Rattle.std.proofs.Common.{◌≡◌, map}
-use Rattle.std.specs.List.{range_with_len}
-use Rattle.rs01_repair.specs.Holding.{fields_in}
-use Rattle.rs01_repair.specs.Inputs.{sum_at}
-use Rattle.rs01_repair.proofs.input.layer_sums.Given as goal
-
-abbrev pub invariant-loop-place : goal.invariant-loop-place
-invariant-loop-place l = l.sums.items ≡ map (sum_at (fields_in l.held) l.held.ecc.sums.list l.layer) (range_with_len 0 l.place)
