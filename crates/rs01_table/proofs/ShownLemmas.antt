@@ -95,12 +95,12 @@ module _ (fit : LayerInput → Type 0) (value : LayerInput → LayerOut) where
     shows_worker m w x v' mine named given is ticket r =
         shows_with m (set m.workers w x) v' given (length-set m.workers w x ∙ r.staff)
         (λ i u e working k number. ⊎_elim
-          (λ h.
-          let numbers : v'.numbers ≡ u.numbers = ap (λ (z : View). z.numbers) h.1 in
-          let same : k ≡ w = head_is k w u.numbers number (sym numbers ∙ named ∙ mine) in
-          ap (slice_get (set m.workers w x)) same ∙ set_here m.workers w x (within m.workers w (status v) (r.workers id v at works w mine)) ∙ ap (λ s. Some s) (sym is ∙ ap status h.1))
-          (λ h. set_else m.workers w k x (apart w mine i u h.1 h.0 k number) ∙ r.workers i u h.1 working k number)
-          (at_set vs id i v' u e))
+        (λ h.
+        let numbers : v'.numbers ≡ u.numbers = ap (λ (z : View). z.numbers) h.1 in
+        let same : k ≡ w = head_is k w u.numbers number (sym numbers ∙ named ∙ mine) in
+        ap (slice_get (set m.workers w x)) same ∙ set_here m.workers w x (within m.workers w (status v) (r.workers id v at works w mine)) ∙ ap (λ s. Some s) (sym is ∙ ap status h.1))
+        (λ h. set_else m.workers w k x (apart w mine i u h.1 h.0 k number) ∙ r.workers i u h.1 working k number)
+        (at_set vs id i v' u e))
         ticket r
 
     -- or the status that it had
@@ -108,9 +108,9 @@ module _ (fit : LayerInput → Type 0) (value : LayerInput → LayerOut) where
     shows_same m v' working' named given is ticket r =
         shows_with m m.workers v' given r.staff
         (λ i u e working k number. ⊎_elim
-          (λ h. r.workers id v at works k (sym named ∙ ap (λ (z : View). z.numbers) h.1 ∙ number) ∙ ap (λ s. Some s) (sym is ∙ ap status h.1))
-          (λ h. r.workers i u h.1 working k number)
-          (at_set vs id i v' u e))
+        (λ h. r.workers id v at works k (sym named ∙ ap (λ (z : View). z.numbers) h.1 ∙ number) ∙ ap (λ s. Some s) (sym is ∙ ap status h.1))
+        (λ h. r.workers i u h.1 working k number)
+        (at_set vs id i v' u e))
         ticket r
 
     pub shown_draw : v.held ≡ [] → v.got ≡ [] → v.over ≡ false → Shown value p n w1 vs → Shown value p n (w1 + 1) (set vs id (after_draw v w1))
