@@ -6,7 +6,7 @@ use md5::{Digest, Md5};
 use rs01_ecchead::{Head, HeadRefusal, Which, write_head};
 use rs01_fakes::MemoryDesk;
 use rs01_lists::{push_zeros, zeroed};
-use rs01_outside::Desk;
+use rs01_outside::{Desk, Failed};
 use rs01_report::{FixReport, Strange, Why};
 use rs01_sums::{crc32, marker};
 use std::alloc::{AllocError, Global};
@@ -297,5 +297,94 @@ fn damage_at_the_edge_of_a_window(rt: HostRuntime) -> Result<(), Fail> {
     repair_three(&rt, rt.alloc(), 9921)?;
     repair_three(&rt, rt.alloc(), 19_840)?;
     repair_three(&rt, rt.alloc(), 19_841)?;
+    Ok(())
+}
+
+// A desk that tells whether a byte of the image was read after one was written.
+#[derive(Drop)]
+struct Ordered {
+    desk: MemoryDesk,
+    wrote: bool,
+    read_after: bool,
+}
+
+impl Desk for Ordered {
+    ghost use Rattle.rs01_fakes.specs.Memory.{desk_state};
+
+    ghost state = { λ d. desk_state d.desk };
+
+    fn size(&mut self, name: &str) -> Result<Option<u64>, Failed> {
+        self.desk.size(name)
+    }
+
+    fn read_at(&mut self, name: &str, at: u64, into: &mut [u8]) -> Result<usize, Failed> {
+        self.read_after |= self.wrote && name == "disc.iso";
+        self.desk.read_at(name, at, into)
+    }
+
+    fn write_at(&mut self, name: &str, at: u64, bytes: &[u8]) -> Result<(), Failed> {
+        self.wrote = true;
+        self.desk.write_at(name, at, bytes)
+    }
+
+    fn make(&mut self, name: &str) -> Result<(), Failed> {
+        self.desk.make(name)
+    }
+
+    fn cut(&mut self, name: &str, len: u64) -> Result<(), Failed> {
+        self.desk.cut(name, len)
+    }
+
+    fn read_faults(&self) -> u64 {
+        self.desk.read_faults()
+    }
+
+    fn write_faults(&self) -> u64 {
+        self.desk.write_faults()
+    }
+}
+
+// The image is cut so that sectors of both windows are absent. The second window is read after the first one's writes, by
+// which the file has grown already.
+#[test]
+fn absent_in_two_windows(rt: HostRuntime) -> Result<(), Fail> {
+    let mut desk = Ordered {
+        desk: large(rt.alloc(), 9921)?,
+        wrote: false,
+        read_after: false,
+    };
+    assert!(rt; desk.desk.cut("disc.iso", 2048 * 9860).is_ok());
+    let report = fix_one(rt.alloc(), &mut desk, "disc.iso", "disc.ecc", false)?;
+    assert_eq!(rt; report.restored.len(), 61);
+    let rising = report.restored.items().iter().enumerate();
+    for (i, sector) in rising {
+        assert_eq!(rt; *sector as usize, 9860usize.wrapping_add(i));
+    }
+    assert!(rt; report.lost.len() == 0 && report.strange.len() == 0);
+    assert!(rt; desk.read_after);
+    assert!(rt; is_zeros(&desk.desk, 2048 * 9921));
+    Ok(())
+}
+
+// Calls that fail in either window. After the fault a second repair goes on.
+#[test]
+fn calls_failing_in_two_windows(rt: HostRuntime) -> Result<(), Fail> {
+    for row in 0..40u64 {
+        let mut desk = large(rt.alloc(), 9921)?;
+        for sector in [0u64, 64, 9920] {
+            assert!(rt; desk.write_at("disc.iso", 2048 * sector, b"!").is_ok());
+        }
+        desk.fail_call(3 + 13 * row);
+        desk.keep_prefix(Some(100));
+        let refused = fix(rt.alloc(), &mut desk, false).err();
+        let want = match (desk.read_faults(), desk.write_faults()) {
+            (0, 0) => None,
+            (1, 0) => Some(FixRefusal::ReadFault),
+            _ => Some(FixRefusal::WriteFault),
+        };
+        assert!(rt; refused == want, "row {row}");
+        assert!(rt; fix(rt.alloc(), &mut desk, false).is_ok());
+        assert!(rt; is_zeros(&desk, 2048 * 9921), "row {row}");
+    }
     Ok(())
 }

@@ -5,4 +5,4 @@ use Rattle.rs01_repair.proofs.tests.first_layer.Goals as goal
 
 pub next_input-requires : goal.next_input-requires
 next_input-requires c =
-    ready_new c.args.found.now _ _ (desk_state c.args.desk.now) c.new.result 0 c.new.ensures.next c.new.ensures.first c.new.ensures.parts c.new.ensures.parity (omega arith)
+    ready_new c.args.found.now _ _ (desk_state c.args.desk.now) c.new-batch.result 0 c.new-batch.ensures.next c.new-batch.ensures.first c.new-batch.ensures.parts c.new-batch.ensures.parity (omega arith)
