@@ -1,0 +1,25 @@
+use Rattle.rs01_reader.proofs.GiveLemmas.{looked-going, looked-leads, picks-none, picks-some, picks-stop, start-picks}
+use Rattle.rs01_reader.proofs.giving.next_layer.Goals as goal
+
+pub read_on-requires : goal.read_on-requires
+read_on-requires g c = looked-going c.args.setup.now c.args.course.now c.next_settled.new.self _ _ c.requires c.in-None.ensures
+
+pub returns-in-Some : goal.returns-in-Some
+returns-in-Some g c = record {
+  leads = looked-leads c.args.setup.now c.args.course.now c.next_settled.new.self _ _ _ c.in-Some.ensures.new_is;
+  picked = start-picks c.args.setup.now c.args.course.now c.next_settled.new.self _ _ c.in-Some.layer c.requires c.in-Some.ensures;
+  none = tt;
+  halted = tt;
+}
+
+pub returns-in-Ok-Some : goal.returns-in-Ok-Some
+returns-in-Ok-Some g c =
+    picks-some c.args.setup.now c.args.course.now c.next_settled.new.self c.read_on.new.course _ _ _ _ c.in-Ok-Some.field-0 c.in-Ok-Some.layer c.requires c.in-None.ensures c.in-Ok-Some.field-0-is c.in-Ok-Some.ensures
+
+pub returns-in-Ok-None : goal.returns-in-Ok-None
+returns-in-Ok-None g c =
+    picks-none c.args.setup.now c.args.course.now c.next_settled.new.self c.read_on.new.course _ _ _ _ c.in-Ok-None.field-0 c.requires c.in-None.ensures c.in-Ok-None.field-0-is c.in-Ok-None.ensures
+
+pub returns-in-Err : goal.returns-in-Err
+returns-in-Err g c =
+    picks-stop c.args.setup.now c.args.course.now c.next_settled.new.self c.read_on.new.course _ _ _ _ c.in-Err.stop c.requires c.in-None.ensures c.in-Err.ensures

@@ -1,0 +1,5 @@
+pub mod Courses
+pub mod Stops
+pub mod Inputs
+pub mod Settled
+pub mod Steps

@@ -1,0 +1,130 @@
+-- What each step of a reader makes of it.
+use Rattle.std.specs.Prelude.{ℕ, ◌≡◌, ◌≢◌, ◌⊎◌, ◌++◌, ◌∷◌, [], Bool, false, true, Contains, IfErr, IfNone, IfOk, IfSome, IsTrue, List, Option, Some, None, Result, Ok, Err}
+use Rattle.rs01_layers.specs.declared.input.LayerInput.{LayerInput}
+use Rattle.rs01_layers.specs.declared.shape.Shape.{Shape}
+use Rattle.rs01_outside.specs.Causes.{Rose}
+use Rattle.rs01_outside.specs.DeskState.{DeskState}
+use Rattle.rs01_rack.specs.Rack.{RackState}
+use Rattle.rs01_states.specs.Sparing.{is_within}
+use Rattle.rs01_states.specs.declared.state.State.{State}
+use Rattle.rs01_linear.specs.declared.asking.Asked.{Asked}
+use Rattle.rs01_turns.specs.Leads.{Leads}
+use Rattle.rs01_turns.specs.Turns.{NoneUnread}
+use Rattle.rs01_reader.specs.Courses.{CourseSeen, IsSpared, course_after, settled_after}
+use Rattle.rs01_reader.specs.Inputs.{IsBuiltBy}
+use Rattle.rs01_reader.specs.Settled.{Done, Fits, Going, Halted, Settled, moment}
+use Rattle.rs01_reader.specs.declared.setup.Setup.{Setup}
+use Rattle.rs01_reader.specs.declared.stop.Stop.{Stop}
+use Rattle.rs01_reader.specs.declared.stop.Stop.TheVariants.{OutOfMemory, ReadFault, WriteFault}
+
+-- whether a step ended since reading a file failed
+abbrev pub stops_reading : Stop → Bool
+stops_reading ReadFault = true
+stops_reading WriteFault = false
+stops_reading OutOfMemory = false
+
+abbrev pub is_read_stop : {T : Type 0} → Result T Stop → Bool
+is_read_stop (Ok value) = false
+is_read_stop (Err stop) = stops_reading stop
+
+-- a sector was asked for, and a layer may have come within its bound by it
+pub record Went (old new : CourseSeen) (s : ℕ) (settled : Option ℕ) : Type 0 where
+  pub asked : Asked
+  pub course_is : new ≡ course_after old s asked
+  pub settled_is : settled ≡ settled_after old.shape s asked old.states new.states
+
+-- only the states, the place and the fates changed
+pub record OnlyAsked (old new : CourseSeen) : Type 0 where
+  pub shape_same : new.shape ≡ old.shape
+  pub given_same : new.given ≡ old.given
+  pub first_same : new.first ≡ old.first
+  pub reads_same : new.kept_reads ≡ old.kept_reads
+  pub writes_same : new.kept_writes ≡ old.kept_writes
+
+-- writing failed
+pub record WriteFailed (old new : DeskState) (stop : Stop) : Type 0 where
+  pub stop_is : stop ≡ WriteFault
+  pub rose : Rose old.write_faults new.write_faults
+
+-- how asking for the next sector ends
+pub record AsksNext (setup : Setup) (s : ℕ) (old new : CourseSeen) (desk desk' : DeskState) (result : Result (Option ℕ) Stop) (rack rack' : RackState) : Type 0 where
+  pub leads : Leads (moment setup old rack desk) (moment setup new rack' desk')
+  pub only : OnlyAsked old new
+  pub went : IfOk result (Went old new s)
+  pub halted : IfErr result (WriteFailed desk desk')
+
+-- each layer that is within its bound was so before, but for such
+abbrev pub WithinStay : (old new : CourseSeen) → (ℕ → Type 0) → Type 0
+WithinStay old new Other = (l : ℕ) → is_within new.shape l new.states ≡ true → (is_within old.shape l old.states ≡ true) ⊎ Other l
+
+-- a layer is settled that wasn't before, and no other one is
+pub record Settles (setup : Setup) (old new : CourseSeen) (desk desk' : DeskState) (rack rack' : RackState) (l : ℕ) : Type 0 where
+  pub settled : Settled (moment setup new rack' desk') l
+  pub fresh : Settled (moment setup old rack desk) l → ⊥
+  pub others : WithinStay old new (λ other. other ≡ l)
+
+-- no layer was settled, and no sector is unread
+pub record Ends (old new : CourseSeen) : Type 0 where
+  pub none_unread : NoneUnread new.states
+  pub others : WithinStay old new (λ other. ⊥)
+
+-- how reading on until a layer is settled ends
+pub record ReadsOn (setup : Setup) (old new : CourseSeen) (desk desk' : DeskState) (result : Result (Option ℕ) Stop) (rack rack' : RackState) : Type 0 where
+  pub leads : Leads (moment setup old rack desk) (moment setup new rack' desk')
+  pub only : OnlyAsked old new
+  pub spared : IfOk result (λ settled. IsSpared new.shape new.states)
+  pub settles : IfOk result (λ settled. IfSome settled (Settles setup old new desk desk' rack rack'))
+  pub ends : IfOk result (λ settled. IfNone settled (Ends old new))
+  pub halted : IfErr result (WriteFailed desk desk')
+
+-- a layer is settled and wasn't given, and once it is given the reader may go on
+pub record Picked (setup : Setup) (old new : CourseSeen) (desk' : DeskState) (rack' : RackState) (l : ℕ) : Type 0 where
+  pub settled : Settled (moment setup new rack' desk') l
+  pub fresh : Contains new.given l → ⊥
+  pub given_same : new.given ≡ old.given
+  pub going : Going (moment setup (record new { given = new.given ++ l ∷ [] }) rack' desk')
+
+-- there is no layer to give
+pub record GaveNone (setup : Setup) (old new : CourseSeen) (desk' : DeskState) (rack' : RackState) : Type 0 where
+  pub given_same : new.given ≡ old.given
+  pub done : Done (moment setup new rack' desk')
+
+-- the reader stopped, and gave none
+pub record GaveUp (setup : Setup) (old new : CourseSeen) (desk' : DeskState) (rack' : RackState) (stop : Stop) : Type 0 where
+  pub given_same : new.given ≡ old.given
+  pub halted : Halted (moment setup new rack' desk') stop
+
+-- how looking for the next settled layer ends
+pub record Picks (setup : Setup) (old new : CourseSeen) (desk desk' : DeskState) (result : Result (Option ℕ) Stop) (rack rack' : RackState) : Type 0 where
+  pub leads : Leads (moment setup old rack desk) (moment setup new rack' desk')
+  pub picked : IfOk result (λ found. IfSome found (Picked setup old new desk' rack'))
+  pub none : IfOk result (λ found. IfNone found (GaveNone setup old new desk' rack'))
+  pub halted : IfErr result (GaveUp setup old new desk' rack')
+
+-- a stop that comes from reading files or from want of memory
+abbrev pub IsOfReading : Stop → Type 0
+IsOfReading ReadFault = Unit {0}
+IsOfReading WriteFault = ⊥
+IsOfReading OutOfMemory = Unit {0}
+
+-- the layer's input was made and the layer noted, or nothing was noted
+abbrev pub GivesLayer : Setup → (old new : CourseSeen) → DeskState → ℕ → Result LayerInput Stop → Type 0
+GivesLayer setup old new desk l (Ok input) = (new ≡ record old { given = old.given ++ l ∷ [] }) × IsBuiltBy setup old desk l input
+GivesLayer setup old new desk l (Err stop) = (new ≡ old) × IsOfReading stop
+
+-- an input was given, and the reader may go on
+pub record Gave (setup : Setup) (old new : CourseSeen) (desk' : DeskState) (rack' : RackState) (input : LayerInput) : Type 0 where
+  pub given : new.given ≡ old.given ++ input.layer ∷ []
+  pub fits : Fits (moment setup new rack' desk') input
+  pub going : Going (moment setup new rack' desk')
+
+abbrev pub Ended : Setup → (old new : CourseSeen) → (desk' : DeskState) → (rack' : RackState) → Result (Option LayerInput) Stop → Type 0
+Ended setup old new desk' rack' (Ok (Some input)) = Gave setup old new desk' rack' input
+Ended setup old new desk' rack' (Ok None) = GaveNone setup old new desk' rack'
+Ended setup old new desk' rack' (Err stop) = GaveUp setup old new desk' rack' stop
+
+-- how asking a reader for the next input ends
+pub record Gives (setup : Setup) (old new : CourseSeen) (desk desk' : DeskState) (result : Result (Option LayerInput) Stop) (rack rack' : RackState) : Type 0 where
+  pub leads : Leads (moment setup old rack desk) (moment setup new rack' desk')
+  pub kept : (input : LayerInput) → Fits (moment setup old rack desk) input → Fits (moment setup new rack' desk') input
+  pub ended : Ended setup old new desk' rack' result
