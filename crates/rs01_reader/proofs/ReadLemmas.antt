@@ -20,7 +20,7 @@ use Rattle.rs01_ecchead.specs.Runs.{IsRun}
 use Rattle.rs01_ecchead.specs.declared.opened.Ecc.{Ecc}
 use Rattle.rs01_ecchead.proofs.Parts.{whole_piece}
 use Rattle.rs01_erase.specs.Correcting.{AgreeWhereHeld, blocks_in}
-use Rattle.rs01_repair.specs.Inputs.{IsInput, block_at, blocks_at, flags_at, parity_at, sums_at}
+use Rattle.rs01_repair.specs.Inputs.{IsInput, block_at, blocks_at, flags_at, parity_at, place_number, sums_at}
 use Rattle.rs01_repair.proofs.InputLemmas.{blocks_cut, length-block_at, same_where_held, size_fits}
 use Rattle.rs01_repair.proofs.Joined.{parity_is}
 use Rattle.rs01_repair.proofs.Numbered.{one_more_piece}
@@ -87,7 +87,8 @@ input_is ecc course image file l input count data_ erased sums parity =
       parity_count = count;
       erased = erased;
       blocks = subst (λ (bs : List (List ℕ)). AgreeWhereHeld (flags_at f (is_gone course) l) bs (blocks_at f (block_in (known_of ecc) image) l)) (sym cut)
-          (same_where_held f (block_in (known_of ecc) image) (kept_in ecc course image) (is_gone course) l (kept-good ecc course image));
+          (same_where_held f (block_in (known_of ecc) image) (kept_in ecc course image) (is_gone course) l
+          (λ p below inside good. kept-good ecc course image (place_number f l p) good));
       sums = λ p e. ap (λ xs. get_or xs p 0) sums;
       parity = parity;
     }
