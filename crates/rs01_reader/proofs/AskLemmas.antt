@@ -35,7 +35,7 @@ next-inside states place s n next all = let there = unread-inside states s (next
 pub next-is-unread : (states : List State) (place : Option ℕ) (s : ℕ) → next_sector states place ≡ Some s → IsUnread states s
 next-is-unread states place s next = next-unread states place s next
 
-pub ruleset next_facts = (next-is-unread, next-inside)
+pub ruleset next_facts = (next-is-unread)
 
 pub only-asked : (old new : CourseSeen) (s : ℕ) (a : Asked) → new ≡ course_after old s a → OnlyAsked old new
 only-asked old new s a is = record {

@@ -96,7 +96,8 @@ impl Course {
     ) -> Result<Course, AllocError>
         requires few { length fates.items < 2 ^ 32 }
         requires shape { IfSome shape (λ given. given.sectors ≡ length fates.items) }
-        ensures { IfOk result (λ course. course ≡ start_of shape fates.items read_faults write_faults) }
+        ensures { IfOk result (λ course. course
+            ≡ start_of shape fates.items read_faults write_faults) }
     {
         let sectors = fates.len() as u32;
         let good = good_flags(alloc, &fates)?;

@@ -24,31 +24,40 @@ fn fresh(alloc: Global, sectors: u32, parity: u32) -> Result<Course, AllocError>
     Course::new(alloc, shape_of(sectors, parity), fates, 0, 0)
 }
 
-// The sectors in the order in which they are asked for, of which those from one to below another can't be read, and the
-// layers that come within their bound, each with the sector that does it.
+// Asks for the next sector, if there is one, and marks it: those from one to below another can't be read. Tells the sector
+// and the layer that came within its bound, if one did.
 #[tactic(auto, using(crate::proofs::AskLemmas::next_facts))]
+fn ask(course: &mut Course, from: u32, to: u32) -> Option<(u32, Option<u32>)> {
+    match course.next_sector() {
+        None => None,
+        Some(sector) => {
+            let answer = if sector >= from && sector < to {
+                Asked::Unreadable
+            } else {
+                Asked::Read
+            };
+            let settled = course.mark(sector, answer);
+            Some((sector, settled))
+        }
+    }
+}
+
+// The sectors in the order in which they are asked for, and the sectors by which a layer came within its bound.
 fn walk(
     alloc: Global,
     course: &mut Course,
     from: u32,
     to: u32,
-) -> Result<(Vec<u32>, Vec<(u32, u32)>), AllocError> {
+) -> Result<(Vec<u32>, Vec<u32>), AllocError> {
     let mut asked = Vec::new(alloc);
     let mut settled = Vec::new(alloc);
     for _ask in 0..1000u32 {
-        match course.next_sector() {
-            None => return Ok((asked, settled)),
-            Some(sector) => {
-                asked.push(sector)?;
-                let answer = if sector >= from && sector < to {
-                    Asked::Unreadable
-                } else {
-                    Asked::Read
-                };
-                if let Some(layer) = course.mark(sector, answer) {
-                    settled.push((layer, sector))?;
-                }
-            }
+        let Some((sector, layer)) = ask(course, from, to) else {
+            return Ok((asked, settled));
+        };
+        asked.push(sector)?;
+        if layer.is_some() {
+            settled.push(sector)?;
         }
     }
     Ok((asked, settled))
@@ -89,7 +98,7 @@ fn layers_settle_once(rt: HostRuntime) -> Result<(), Fail> {
     let mut course = fresh(alloc, 446, 32)?;
     assert!(rt; course.next_settled().is_none());
     let (_asked, settled) = walk(alloc, &mut course, 0, 0)?;
-    let wanted: [(u32, u32); 2] = [(0, 380), (1, 381)];
+    let wanted: [u32; 2] = [380, 381];
     assert!(rt; settled.as_slice() == wanted.as_slice());
     let mut spared = fresh(alloc, 20, 32)?;
     assert_eq!(rt; spared.next_settled(), Some(0));
