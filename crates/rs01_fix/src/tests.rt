@@ -369,12 +369,12 @@ fn absent_in_two_windows(rt: HostRuntime) -> Result<(), Fail> {
 // Calls that fail in either window. After the fault a second repair goes on.
 #[test]
 fn calls_failing_in_two_windows(rt: HostRuntime) -> Result<(), Fail> {
-    for row in 0..40u64 {
+    for row in 0..8u64 {
         let mut desk = large(rt.alloc(), 9921)?;
         for sector in [0u64, 64, 9920] {
             assert!(rt; desk.write_at("disc.iso", 2048 * sector, b"!").is_ok());
         }
-        desk.fail_call(3 + 13 * row);
+        desk.fail_call(3 + 67 * row);
         desk.keep_prefix(Some(100));
         let refused = fix(rt.alloc(), &mut desk, false).err();
         let want = match (desk.read_faults(), desk.write_faults()) {

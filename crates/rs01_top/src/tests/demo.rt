@@ -65,8 +65,8 @@ fn interrupted_demonstrations(rt: HostRuntime) -> Result<(), Fail> {
         desk.fail_call(call);
         desk.keep_prefix(Some(100));
         let (status, want) = match call {
-            0..2 | 4..8 | 8..10 | 24..26 => (4, "rs01: writing a file failed\n"),
-            2..4 | 10..24 | 26..29 => (4, "rs01: reading a file failed\n"),
+            0..2 | 4..10 | 25..27 => (4, "rs01: writing a file failed\n"),
+            2..4 | 10..25 | 27..30 => (4, "rs01: reading a file failed\n"),
             _ => (0, whole),
         };
         let ran = puts(rt.alloc(), line, &mut desk, want)?;
@@ -78,6 +78,6 @@ fn interrupted_demonstrations(rt: HostRuntime) -> Result<(), Fail> {
         let ran = puts(rt.alloc(), line, &mut desk, whole)?;
         assert_eq!(rt; ran, (0, true), "again after call {call}");
     }
-    assert_eq!(rt; (reads, writes), (19, 10));
+    assert_eq!(rt; (reads, writes), (20, 10));
     Ok(())
 }
