@@ -7,7 +7,7 @@ use Rattle.std.proofs.lemmas.List.{length-append, length-take, drop-replicate, d
 use Rattle.rs01_outside.specs.Files.{Files, Becomes, SameElsewhere, bytes_of, put_at}
 use Rattle.rs01_lists.specs.Bytes.{padded, zeros}
 use Rattle.rs01_lists.proofs.Padding.{length-zeros}
-use Rattle.rs01_create.specs.Unfinished.{IsUnfinished, IsBegun, Writes}
+use Rattle.rs01_create.specs.Unfinished.{Begins, IsBegun, IsUnfinished}
 
 pub told : (a b : Bool) → a ≡ b → IsTrue b → IsTrue a
 told a b e t = subst IsTrue (sym e) t
@@ -75,7 +75,7 @@ first_bytes : (z : List ℕ) (w : ℕ) → z ≡ zeros w → put_at [] 0 z ≡ z
 first_bytes z w e = put_at-end [] z 0 refl ∙ e
 
 -- the same name after two steps
-elsewhere_twice : (name : List ℕ) (a b c : Files) → SameElsewhere name a b → SameElsewhere name b c → SameElsewhere name a c
+pub elsewhere_twice : (name : List ℕ) (a b c : Files) → SameElsewhere name a b → SameElsewhere name b c → SameElsewhere name a c
 elsewhere_twice name a b c e f other apart = f other apart ∙ e other apart
 
 pub begun : (header file : List ℕ) (old new : Option (List ℕ)) → new ≡ Some file → IsBegun header file → IsUnfinished header old new
@@ -122,7 +122,7 @@ left_by_body name header body f0 f2 f3 stands =
     (λ i. put_at (made_file name (zeros 4096) f0 f2 stands i) 4096 (take kept body)) ∙ put_at-end (zeros 4096) (take kept body) 4096 (length-zeros 4096) in
     begun header file (f0 name) (f3 name) b.there (body_begun header file (take kept body) is))
 
--- after the body
+-- after the checksums
 pub body_stands : (name body : List ℕ) (f0 f2 f3 : Files) → Becomes name (zeros 4096) f0 f2
     → Becomes name (put_at (bytes_of f2 name) 4096 body) f2 f3 → Becomes name (zeros 4096 ++ body) f0 f3
 body_stands name body f0 f2 f3 stands b = record {
@@ -130,27 +130,38 @@ body_stands name body f0 f2 f3 stands b = record {
   elsewhere = elsewhere_twice name f0 f2 f3 stands.elsewhere b.elsewhere;
 }
 
-pub left_by_header : (name header body : List ℕ) (f0 f3 f4 : Files) → length header ≡ 4096 → Becomes name (zeros 4096 ++ body) f0 f3
-    → (f4 ≡ f3) ⊎ ((kept : ℕ) × Becomes name (put_at (bytes_of f3 name) 0 (take kept header)) f3 f4) → IsUnfinished header (f0 name) (f4 name)
-left_by_header name header body f0 f3 f4 long stands =
-    ⊎_elim
-    (λ same. begun header (zeros 4096 ++ body) (f0 name) (f4 name) (ap (λ (f : Files). f name) same ∙ stands.there) (body_begun header (zeros 4096 ++ body) body refl))
-    (λ (kept, b).
-    let file = put_at (bytes_of f3 name) 0 (take kept header) in
-    let is : file ≡ put_at (zeros 4096 ++ body) 0 (take kept header) = (λ i. put_at (made_file name (zeros 4096 ++ body) f0 f3 stands i) 0 (take kept header)) in
-    begun header file (f0 name) (f4 name) b.there (inr (kept, ap (take 4096) is ∙ header_before 4096 kept header body long)))
-
--- after the header
-pub file_stands : (name header body : List ℕ) (f0 f3 f4 : Files) → length header ≡ 4096 → Becomes name (zeros 4096 ++ body) f0 f3
-    → Becomes name (put_at (bytes_of f3 name) 0 header) f3 f4 → Becomes name (header ++ body) f0 f4
-file_stands name header body f0 f3 f4 long stands b =
+-- bytes of a header over the zeros in front of a body
+headed : (header body : List ℕ) (o : Option (List ℕ)) → length header ≡ 4096 → o ≡ Some (zeros 4096 ++ body)
+    → put_at (unwrap_or o []) 0 header ≡ header ++ body
+headed header body o long there =
+    let file : unwrap_or o [] ≡ zeros 4096 ++ body = ap (λ (x : Option (List ℕ)). unwrap_or x []) there in
     let room : length header ≤ length (zeros 4096 ++ body) = omega (arith, length-append (zeros 4096) body, length-zeros 4096, long) in
     let rest : drop (length header) (zeros 4096 ++ body) ≡ body =
     ap (λ k. drop k (zeros 4096 ++ body)) (long ∙ sym (length-zeros 4096)) ∙ drop-append_seam (zeros 4096) body in
-    record {
-      there = b.there ∙ ap Some ((λ i. put_at (made_file name (zeros 4096 ++ body) f0 f3 stands i) 0 header) ∙ put_at-front (zeros 4096 ++ body) header room ∙ ap (λ xs. header ++ xs) rest);
-      elsewhere = elsewhere_twice name f0 f3 f4 stands.elsewhere b.elsewhere;
-    }
+    ap (λ xs. put_at xs 0 header) file ∙ put_at-front (zeros 4096 ++ body) header room ∙ ap (λ xs. header ++ xs) rest
+
+-- after the header
+pub file_ends : (name header body : List ℕ) (f0 f1 : Files) → length header ≡ 4096 → f0 name ≡ Some (zeros 4096 ++ body)
+    → Becomes name (put_at (bytes_of f0 name) 0 header) f0 f1 → Becomes name (header ++ body) f0 f1
+file_ends name header body f0 f1 long there b = record {
+  there = b.there ∙ ap Some (headed header body (f0 name) long there);
+  elsewhere = b.elsewhere;
+}
+
+pub left_by_end : (name put header body : List ℕ) (f0 f1 : Files) (before : Option (List ℕ)) → put ≡ header → length put ≡ 4096 → f0 name ≡ Some (zeros 4096 ++ body)
+    → (f1 ≡ f0) ⊎ ((kept : ℕ) × Becomes name (put_at (bytes_of f0 name) 0 (take kept put)) f0 f1) → IsUnfinished header before (f1 name)
+left_by_end name put header body f0 f1 before same long there =
+    ⊎_elim
+    (λ still. begun header (zeros 4096 ++ body) before (f1 name) (ap (λ (f : Files). f name) still ∙ there) (body_begun header (zeros 4096 ++ body) body refl))
+    (λ (kept, b).
+    let file = put_at (bytes_of f0 name) 0 (take kept put) in
+    let is : file ≡ put_at (zeros 4096 ++ body) 0 (take kept header) =
+    (λ i. put_at (ap (λ (o : Option (List ℕ)). unwrap_or o []) there i) 0 (take kept (same i))) in
+    begun header file before (f1 name) b.there (inr (kept, ap (take 4096) is ∙ header_before 4096 kept header body (ap length (sym same) ∙ long))))
+
+-- a file that has zeros in place of a header is only begun
+pub headless_begun : (header : List ℕ) (old new : Option (List ℕ)) → ((rest : List ℕ) × (new ≡ Some (zeros 4096 ++ rest))) → IsUnfinished header old new
+headless_begun header old new (rest, there) = begun header (zeros 4096 ++ rest) old new there (body_begun header (zeros 4096 ++ rest) rest refl)
 
 -- the zeros that the code writes
 pub zeros_made : replicate 4096 0 ≡ zeros 4096
@@ -158,7 +169,7 @@ unfolding zeros
 zeros_made = refl
 
 -- a step that failed
-pub failed : {E : Type 0} (header body name : List ℕ) (old new : Files) (r : Result Unit E) → IsErr r → IsUnfinished header (old name) (new name)
-    → Writes header body name old new r
-failed header body name old new (Ok u) e p = cc
-failed header body name old new (Err x) e p = p
+pub failed : {E : Type 0} (sums name : List ℕ) (old new : Files) (r : Result Unit E) → IsErr r → ((header : List ℕ) → IsUnfinished header (old name) (new name))
+    → Begins sums name old new r
+failed sums name old new (Ok u) e p = cc
+failed sums name old new (Err x) e p = p

@@ -7,7 +7,6 @@ use Rattle.rs01_ecchead.specs.Header.{head_bytes}
 use Rattle.rs01_report.specs.declared.reports.CreateReport.{CreateReport}
 use Rattle.rs01_create.specs.Create.{refusal_of, report_of}
 use Rattle.rs01_create.specs.Unfinished.{IsUnfinished}
-use Rattle.rs01_create.specs.declared.image.Image.{Image}
 use Rattle.rs01_create.specs.declared.refusal.CreateRefusal.{CreateRefusal}
 use Rattle.rs01_create.specs.declared.refusal.CreateRefusal.TheVariants.{NoImage, EmptyImage, TooManySectors, Marker, ReadFault, WriteFault, OutOfMemory}
 
@@ -52,18 +51,14 @@ abbrev pub Makes : (bytes : List ℕ) → ℕ → (ecc : List ℕ) → (old new 
 Makes bytes r ecc old new (Ok report) = Becomes ecc (ecc_file bytes r) old new × (report ≡ report_of bytes r)
 Makes bytes r ecc old new (Err why) = IsUnfinished (head_bytes (head_fields bytes r)) (old ecc) (new ecc)
 
--- and of an image that is held
-abbrev pub MakesOn : Image → (ecc : List ℕ) → (old new : DeskState) → Result CreateReport CreateRefusal → Type 0
-MakesOn image ecc old new result = IsTrue old.tells → Makes image.bytes.items image.shape.parity ecc old.files new.files result
-
--- it ends without a refusal of the image, and reads nothing
-abbrev pub IsOfMaking : Result CreateReport CreateRefusal → Type 0
-IsOfMaking (Ok report) = Unit {0}
+-- it ends without a refusal of the image
+abbrev pub IsOfMaking : {T : Type 0} → Result T CreateRefusal → Type 0
+IsOfMaking (Ok value) = Unit {0}
 IsOfMaking (Err NoImage) = ⊥
 IsOfMaking (Err EmptyImage) = ⊥
 IsOfMaking (Err (TooManySectors n)) = ⊥
 IsOfMaking (Err (Marker s)) = ⊥
-IsOfMaking (Err ReadFault) = ⊥
+IsOfMaking (Err ReadFault) = Unit {0}
 IsOfMaking (Err WriteFault) = Unit {0}
 IsOfMaking (Err OutOfMemory) = Unit {0}
 
@@ -91,14 +86,3 @@ is_write_fault (Err OutOfMemory) = false
 -- work on the file under a name, by what it answers
 abbrev pub Works : {T : Type 0} → List ℕ → (old new : DeskState) → Result T CreateRefusal → Type 0
 Works name old new result = WorksOn name old new (is_read_fault result) (is_write_fault result)
-
--- what looking at an image answers: its bytes where it can be protected, or why it can't be
-abbrev pub Looks : Option (List ℕ) → Result (List ℕ) CreateRefusal → Type 0
-Looks file (Ok bytes) = (file ≡ Some bytes) × (refusal_of file ≡ None)
-Looks file (Err NoImage) = refusal_of file ≡ Some NoImage
-Looks file (Err EmptyImage) = refusal_of file ≡ Some EmptyImage
-Looks file (Err (TooManySectors n)) = refusal_of file ≡ Some (TooManySectors n)
-Looks file (Err (Marker s)) = refusal_of file ≡ Some (Marker s)
-Looks file (Err ReadFault) = Unit {0}
-Looks file (Err WriteFault) = Unit {0}
-Looks file (Err OutOfMemory) = Unit {0}

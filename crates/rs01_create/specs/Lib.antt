@@ -1,5 +1,13 @@
 pub mod Create
 pub mod Unfinished
 pub mod Answer
-pub mod Inputs
+pub mod Surveyed
 pub mod Looking
+pub mod Windows
+pub mod Making
+pub mod Giving
+pub mod Settling
+pub mod Leading
+pub mod Beginning
+pub mod Ending
+pub mod Stopping

@@ -1,28 +1,29 @@
 -- What looking at an image finds.
-use Rattle.std.specs.Prelude.{ℕ, ◌≡◌, ◌<◌, List, IsTrue, Some, None, Result, Ok, Err}
-use Rattle.rs01_layers.specs.Sectors.{last_of, sectors_of}
-use Rattle.rs01_layers.specs.declared.extent.Extent.{Extent}
-use Rattle.rs01_layers.specs.declared.shape.Shape.{Shape}
+use Rattle.std.specs.Prelude.{ℕ, ◌≡◌, ◌<◌, List, [], IsTrue, Option, Some, None, Result, Ok, Err}
+use Rattle.std.specs.Option.{unwrap_or}
+use Rattle.md5.specs.Md5.{md5}
+use Rattle.rs01_layers.specs.Extents.{IsExtentOf}
+use Rattle.rs01_layers.specs.Sectors.{last_of, sector, sectors_of}
 use Rattle.rs01_outside.specs.DeskState.{DeskState}
+use Rattle.rs01_ecchead.specs.EccFile.{mark_sector_of, sum_bytes}
 use Rattle.rs01_ecchead.specs.declared.walk.WalkFault.{WalkFault}
 use Rattle.rs01_ecchead.specs.declared.walk.WalkFault.TheVariants as walk
-use Rattle.rs01_create.specs.Answer.{Looks}
-use Rattle.rs01_create.specs.Create.{size_refusal}
-use Rattle.rs01_create.specs.declared.image.Image.{Image}
+use Rattle.rs01_create.specs.Create.{refusal_of, size_refusal}
+use Rattle.rs01_create.specs.declared.found.Found.{Found}
+use Rattle.rs01_create.specs.declared.plan.Plan.{Plan}
 use Rattle.rs01_create.specs.declared.refusal.CreateRefusal.{CreateRefusal}
 use Rattle.rs01_create.specs.declared.refusal.CreateRefusal.TheVariants.{NoImage, EmptyImage, TooManySectors, Marker, ReadFault, WriteFault, OutOfMemory}
 
--- the measures of an image of this many bytes
-pub record HasMeasures (size r : ℕ) (extent : Extent) (shape : Shape) : Type 0 where
+-- the plan of an image of this many bytes
+pub record IsPlanOf (size r : ℕ) (plan : Plan) : Type 0 where
   pub accepted : size_refusal size ≡ None
-  pub sectors : extent.sectors ≡ sectors_of size
-  pub last : extent.last_bytes ≡ last_of size
-  pub shaped : shape.sectors ≡ extent.sectors
-  pub parity : shape.parity ≡ r
+  pub sectors : plan.extent.sectors ≡ sectors_of size
+  pub last : plan.extent.last_bytes ≡ last_of size
+  pub parity : plan.shape.parity ≡ r
 
--- they are found, or why there are none
-abbrev pub IsMeasured : ℕ → ℕ → Result (Extent × Shape) CreateRefusal → Type 0
-IsMeasured size r (Ok measures) = HasMeasures size r measures.0 measures.1
+-- it is made, or why there is none
+abbrev pub IsMeasured : ℕ → ℕ → Result Plan CreateRefusal → Type 0
+IsMeasured size r (Ok plan) = IsPlanOf size r plan
 IsMeasured size r (Err NoImage) = ⊥
 IsMeasured size r (Err EmptyImage) = size_refusal size ≡ Some EmptyImage
 IsMeasured size r (Err (TooManySectors n)) = (size_refusal size ≡ Some (TooManySectors n)) × (16777215 < n)
@@ -36,11 +37,30 @@ abbrev pub walk_refusal : WalkFault → CreateRefusal
 walk_refusal walk.ReadFault = ReadFault
 walk_refusal walk.OutOfMemory = OutOfMemory
 
--- the bytes of an image that was held
-abbrev pub bytes_in : Result Image CreateRefusal → Result (List ℕ) CreateRefusal
-bytes_in (Ok image) = Ok image.bytes.items
-bytes_in (Err why) = Err why
+-- what was found is that of an image
+pub record IsFoundOf (image : List ℕ) (found : Found) : Type 0 where
+  pub extended : IsExtentOf image found.plan.extent
+  pub sums : found.sums.items ≡ sum_bytes image
+  pub image_sum : found.image_sum ≡ md5 image
+  pub fingerprint : found.fingerprint ≡ md5 (sector image (mark_sector_of image))
+
+-- it is that of a file that is there and can be protected
+pub record IsAccepted (file : Option (List ℕ)) (found : Found) : Type 0 where
+  pub there : file ≡ Some (unwrap_or file [])
+  pub accepted : refusal_of file ≡ None
+  pub found_is : IsFoundOf (unwrap_or file []) found
+
+-- what looking at an image answers: what was found where it can be protected, or why it can't be
+abbrev pub Looks : Option (List ℕ) → Result Found CreateRefusal → Type 0
+Looks file (Ok found) = IsAccepted file found
+Looks file (Err NoImage) = refusal_of file ≡ Some NoImage
+Looks file (Err EmptyImage) = refusal_of file ≡ Some EmptyImage
+Looks file (Err (TooManySectors n)) = refusal_of file ≡ Some (TooManySectors n)
+Looks file (Err (Marker s)) = refusal_of file ≡ Some (Marker s)
+Looks file (Err ReadFault) = Unit {0}
+Looks file (Err WriteFault) = Unit {0}
+Looks file (Err OutOfMemory) = Unit {0}
 
 -- what looking at the image under a name answers, where the desk tells it
-abbrev pub LooksAt : DeskState → List ℕ → Result Image CreateRefusal → Type 0
-LooksAt state name result = IsTrue state.tells → Looks (state.files name) (bytes_in result)
+abbrev pub LooksAt : DeskState → List ℕ → Result Found CreateRefusal → Type 0
+LooksAt state name result = IsTrue state.tells → Looks (state.files name) result

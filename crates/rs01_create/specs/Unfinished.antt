@@ -13,8 +13,8 @@ IsBegun header file =
 abbrev pub IsUnfinished : List ℕ → Option (List ℕ) → Option (List ℕ) → Type 0
 IsUnfinished header old new = (new ≡ old) ⊎ IsSomeAnd new (IsBegun header)
 
--- what writing a header and a body under a name leaves: the whole file and all others as before, or a file that is only
--- begun
-abbrev pub Writes : {E : Type 0} → (header body name : List ℕ) → (old new : Files) → Result Unit E → Type 0
-Writes header body name old new (Ok u) = Becomes name (header ++ body) old new
-Writes header body name old new (Err e) = IsUnfinished header (old name) (new name)
+-- what beginning a file under a name leaves: zeros in place of a header and these checksums behind them, and all others
+-- as before, or a file that is only begun, whatever its header would be
+abbrev pub Begins : {T E : Type 0} → (sums name : List ℕ) → (old new : Files) → Result T E → Type 0
+Begins sums name old new (Ok value) = Becomes name (zeros 4096 ++ sums) old new
+Begins sums name old new (Err e) = (header : List ℕ) → IsUnfinished header (old name) (new name)

@@ -1,18 +1,24 @@
 //! Making the error correction file of an image.
 #![tactic(auto)]
 
-mod body;
+mod beginning;
+mod course;
 mod create;
-mod header;
-mod image;
+mod ending;
+mod found;
+mod giving;
 mod look;
-mod marked;
-mod parity;
+mod maker;
+mod plan;
 mod refusal;
-mod write;
+mod settling;
+mod survey;
+mod window;
 
 pub use create::create_one;
 pub use refusal::CreateRefusal;
 
 #[cfg(test)]
 mod tests;
+#[cfg(test)]
+mod tests_of_windows;

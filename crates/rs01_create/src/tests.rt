@@ -310,15 +310,18 @@ fn damaged_files(rt: HostRuntime) -> Result<(), Fail> {
 
 #[test]
 fn each_call_failing_in_turn(rt: HostRuntime) -> Result<(), Fail> {
-    // The calls are size, read, make, and the writes of zeros, body and header. After each comes the length of the file
-    // that is left with 60 bytes of a failed write, and with none.
-    let cases: [(u64, CreateRefusal, Option<usize>, Option<usize>); 6] = [
+    // The calls are size, the read for the checksums, make, the writes of zeros and checksums, the read of the layer, and
+    // the writes of parity and header. After each comes the length of the file that is left with 60 bytes of a failed
+    // write, and with none.
+    let cases: [(u64, CreateRefusal, Option<usize>, Option<usize>); 8] = [
         (0, CreateRefusal::ReadFault, None, None),
         (1, CreateRefusal::ReadFault, None, None),
         (2, CreateRefusal::WriteFault, None, None),
         (3, CreateRefusal::WriteFault, Some(60), Some(0)),
-        (4, CreateRefusal::WriteFault, Some(4156), Some(4096)),
-        (5, CreateRefusal::WriteFault, Some(69_636), Some(69_636)),
+        (4, CreateRefusal::WriteFault, Some(4100), Some(4096)),
+        (5, CreateRefusal::ReadFault, Some(4100), Some(4100)),
+        (6, CreateRefusal::WriteFault, Some(4160), Some(4100)),
+        (7, CreateRefusal::WriteFault, Some(69_636), Some(69_636)),
     ];
     for (call, want, partly, nothing) in cases {
         for (kept, left) in [(Some(60u64), partly), (None, nothing)] {
@@ -348,7 +351,7 @@ fn each_call_failing_in_turn(rt: HostRuntime) -> Result<(), Fail> {
         }
     }
     let mut desk = desk_with(rt.alloc(), b"abc")?;
-    desk.fail_call(6);
+    desk.fail_call(8);
     assert!(rt; create(rt.alloc(), &mut desk).is_ok());
     assert_eq!(rt; desk.size("disc.ecc"), Err(Failed));
     Ok(())

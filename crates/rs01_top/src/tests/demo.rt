@@ -59,14 +59,14 @@ fn interrupted_demonstrations(rt: HostRuntime) -> Result<(), Fail> {
         "demo 3 9 8 2\nimage md5 38a07c4d4020989c1de1c6f6548eedbd\nbody md5 43ad3193f21b19bbe1912ffc8f49892d\nrestored 2\nlost 0\nimage is the original\n";
     let mut reads = 0u64;
     let mut writes = 0u64;
-    for call in 0..40u64 {
+    for call in 0..42u64 {
         let mut desk = MemoryDesk::new(rt.alloc());
         desk.put_file(rt.alloc(), "disc.iso", b"abc")?;
         desk.fail_call(call);
         desk.keep_prefix(Some(100));
         let (status, want) = match call {
-            0..2 | 4..10 | 25..27 => (4, "rs01: writing a file failed\n"),
-            2..4 | 10..25 | 27..30 => (4, "rs01: reading a file failed\n"),
+            0..2 | 4..7 | 16..20 | 35..37 => (4, "rs01: writing a file failed\n"),
+            2..4 | 7..16 | 20..35 | 37..40 => (4, "rs01: reading a file failed\n"),
             _ => (0, whole),
         };
         let ran = puts(rt.alloc(), line, &mut desk, want)?;
@@ -78,6 +78,6 @@ fn interrupted_demonstrations(rt: HostRuntime) -> Result<(), Fail> {
         let ran = puts(rt.alloc(), line, &mut desk, whole)?;
         assert_eq!(rt; ran, (0, true), "again after call {call}");
     }
-    assert_eq!(rt; (reads, writes), (20, 10));
+    assert_eq!(rt; (reads, writes), (29, 11));
     Ok(())
 }
