@@ -24,12 +24,12 @@ none-more id [] w all mine none_here = ((mine, none_here), tt)
 none-more id (x ∷ ws) w all mine none_here = (all.0, none-more id ws w all.1 mine none_here)
 
 -- the workers of a new window
-pub free-first : {T : Type 0} (id : TableId) (from : ℕ) (ws : List (Worker T))
+pub free-first : {T : Type 0} (id : TableId) (ws : List (Worker T))
     → ((k : ℕ) (w : Worker T) → get_elem? ws k ≡ some w → (w.seat.table_id ≡ id) × ((j : ℕ) × (w.seat.me.0 ≡ worker_first j))) → AreFree id ws
-free-first id from [] each = tt
-free-first id from (x ∷ ws) each =
+free-first id [] each = tt
+free-first id (x ∷ ws) each =
     let one = each 0 x refl in
-    ((one.0, (ap (λ (v : View). v.held) one.1.1, ap (λ (v : View). v.over) one.1.1)), free-first id from ws (λ k. each (suc k)))
+    ((one.0, (ap (λ (v : View). v.held) one.1.1, ap (λ (v : View). v.over) one.1.1)), free-first id ws (λ k. each (suc k)))
 
 pub gathered-first : {T : Type 0} (id : TableId) (ws : List (Worker T))
     → ((k : ℕ) (w : Worker T) → get_elem? ws k ≡ some w → (w.seat.table_id ≡ id) × ((j : ℕ) × (w.seat.me.0 ≡ worker_first j))) → gathered ws ≡ []

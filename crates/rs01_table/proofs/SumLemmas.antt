@@ -1,9 +1,10 @@
 -- Sums over lists, and how often a number occurs.
-use Rattle.std.proofs.Common.{◌≡◌, ◌≢◌, ℕ, zero, suc, ◌+◌, ◌<◌, ◌≤◌, cond, List, [], ◌∷◌, ◌++◌, length, set, sym, refl, ap, ◌∙◌, arith, ⊎_elim, subst}
+use Rattle.std.proofs.Common.{◌≡◌, ◌≢◌, ℕ, zero, suc, ◌+◌, ◌<◌, ◌≤◌, List, [], ◌∷◌, ◌++◌, length, set, sym, refl, ap, ◌∙◌, arith, ⊎_elim, subst}
 use mathlib.Core.Option.{some, some-injective, some-ne-none}
 use lib.ListN.{get_elem?}
-use Rattle.std.proofs.lemmas.Bool.{cases_lt, eq-eqb}
+use Rattle.std.proofs.lemmas.Bool.{cases_lt}
 use Rattle.std.proofs.lemmas.Bool.Decides.{nat_tests}
+pub use Rattle.rs01_window.proofs.ListLemmas.{total-snoc, same_self, same_other}
 use Rattle.rs01_window.specs.Soundness.{total, same_test}
 use Rattle.rs01_table.specs.Rule.{below_test}
 
@@ -18,9 +19,6 @@ total-kept f l i v w e same = omega (arith, total-set f l i v w e)
 pub total-append : {A : Type 0} (f : A → ℕ) (l m : List A) → total f (l ++ m) ≡ total f l + total f m
 total-append f [] m = omega arith
 total-append f (y ∷ l) m = let r = total-append f l m in omega arith
-
-pub total-snoc : {A : Type 0} (f : A → ℕ) (l : List A) (w : A) → total f (l ++ w ∷ []) ≡ total f l + f w
-total-snoc f l w = omega (arith, total-append f l (w ∷ []))
 
 pub total-le : {A : Type 0} (f g : A → ℕ) (l : List A) → ((i : ℕ) (v : A) → get_elem? l i ≡ some v → f v ≤ g v) → total f l ≤ total g l
 total-le f g [] h = omega arith
@@ -84,12 +82,6 @@ times_le of k (y ∷ l) = let r = times_le of k l in let one : same_test k (of y
 pub same_yes : (x y : ℕ) → 0 < same_test x y → x ≡ y
 same_yes x y h = grind (arith, nat_tests)
 
-pub same_other : (x y : ℕ) → x ≢ y → same_test x y ≡ 0
-same_other x y ne = grind (arith, nat_tests)
-
-pub same_self : (t : ℕ) → same_test t t ≡ 1
-same_self t = ap (λ b. cond b 1 0) (eq-eqb t t refl)
-
 pub below_le : (x n : ℕ) → below_test x n ≤ 1
 below_le x n = grind (arith, nat_tests)
 
@@ -98,9 +90,6 @@ below_none x = grind (arith, nat_tests)
 
 pub below_more : (x n : ℕ) → below_test x n + same_test x n ≡ below_test x (n + 1)
 below_more x n = grind (arith, nat_tests)
-
-pub below_yes : (x n : ℕ) → 1 ≤ below_test x n → x < n
-below_yes x n = grind (arith, nat_tests)
 
 -- the sum of f 0, f 1, .. f (m - 1)
 abbrev pub spread : (ℕ → ℕ) → ℕ → ℕ

@@ -24,6 +24,6 @@ returns g c =
       is_open = search rules;
       workers_are = search rules;
       count = c.in_ok-workers.ensures.count;
-      free = free-first id 0 workers each;
+      free = free-first id workers each;
       none_given = gathered-first id workers each;
     }
