@@ -5,3 +5,5 @@ pub mod MemorySink
 pub mod Scripts
 pub mod ScriptDrive
 pub mod Sample
+pub mod Meeting
+pub mod OnceRefusing
