@@ -5,3 +5,4 @@ mod PlanLemmas
 mod SetUpLemmas
 mod StepLemmas
 mod ToldLemmas
+mod WholeLemmas

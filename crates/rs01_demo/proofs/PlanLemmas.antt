@@ -16,7 +16,7 @@ use Rattle.rs01_demo.specs.Plan.{marked}
 abbrev markers : ℕ → List ℕ
 markers lost = flat_map marker (range_with_len 0 lost)
 
-length-markers : (lost : ℕ) → length (markers lost) ≡ 2048 * lost
+pub length-markers : (lost : ℕ) → length (markers lost) ≡ 2048 * lost
 length-markers lost = length-flat marker 2048 lost (λ k h. length-marker k)
 
 pub length-marked : (bytes : List ℕ) (lost : ℕ) → 2048 * lost ≤ length bytes → length (marked bytes lost) ≡ length bytes

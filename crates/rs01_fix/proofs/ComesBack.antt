@@ -46,7 +46,7 @@ is_image image r c is =
 abbrev answers : List ℕ → ℕ → Opened → List ℕ → ℕ → LayerOut
 answers image r c y = layer_answer (C image r c) y
 
-blocks_of : (image : List ℕ) (r : ℕ) (c : Opened) (y : List ℕ) → HaveBlocks (C image r c) y (answers image r c y)
+pub blocks_of : (image : List ℕ) (r : ℕ) (c : Opened) (y : List ℕ) → HaveBlocks (C image r c) y (answers image r c y)
 blocks_of image r c y l = answer_has_blocks (C image r c) _ _ l
 
 -- a layer is restored exactly where it isn't beyond
@@ -70,7 +70,7 @@ nothing_strange image r c y l is of others low =
 layer_below : (image : List ℕ) (r s : ℕ) → IsProtected image r → layer_of (N image) r s < layers_of (N image) r
 layer_below image r s is = mod-lt s (some_layer (N image) r (shape_of image r is))
 
-mended_where : (image : List ℕ) (r : ℕ) (c : Opened) (y : List ℕ) (s : ℕ) → IsProtected image r → IsOfImage image r c → HasTheOthers image (C image r c) y → s < N image
+pub mended_where : (image : List ℕ) (r : ℕ) (c : Opened) (y : List ℕ) (s : ℕ) → IsProtected image r → IsOfImage image r c → HasTheOthers image (C image r c) y → s < N image
     → is_mended (C image r c) (answers image r c y) s ≡ is_gone (C image r c) y s && not (is_beyond (C image r c) y s)
 mended_where image r c y s is of others below =
     mended_is (C image r c) y (answers image r c y) s (shape_of image r is) (blocks_of image r c y) below
@@ -161,7 +161,7 @@ sector_is image r c y s cut is of others below within =
     ∙ get_or-sector image s j below (omega (arith, low, fits))
     ∙ sym (get_or-take size (drop (2048 * s) image) j 0 low ∙ get_or-drop (2048 * s) image j 0))
 
-comes_back : (image : List ℕ) (r : ℕ) (c : Opened) (y : List ℕ) (cut : Bool) → IsProtected image r → IsOfImage image r c → HasTheOthers image (C image r c) y
+pub comes_back : (image : List ℕ) (r : ℕ) (c : Opened) (y : List ℕ) (cut : Bool) → IsProtected image r → IsOfImage image r c → HasTheOthers image (C image r c) y
     → ComesBack image (C image r c) y (repaired (C image r c) y cut)
 unfolding repaired report_by restored_by lost_by
 comes_back image r c y cut is of others = record {

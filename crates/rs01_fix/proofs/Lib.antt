@@ -2,12 +2,12 @@ mod FoundLemmas
 mod PutLemmas
 mod ProgressLemmas
 mod OrderLemmas
-mod FixedLemmas
+pub mod FixedLemmas
 mod StandLemmas
 mod CutLemmas
 mod ToldLemmas
 mod FileLemmas
-mod ComesBack
+pub mod ComesBack
 mod GoesOn
 mod Later
 mod WindowLemmas
