@@ -1,9 +1,9 @@
 -- Counts of faults, and the files that stay, over several steps.
-use Rattle.std.proofs.Common.{◌≡◌, ◌≤◌, ℕ, Bool, false, true, List, ◌∙◌, subst, sym, arith, refl}
+use Rattle.std.proofs.Common.{ℕ, Bool, false, List, ◌∙◌, subst, sym, arith, refl}
 use Rattle.std.specs.Prelude.{IsTrue}
 use Rattle.rs01_outside.specs.Causes.{Rose}
-use Rattle.rs01_outside.specs.DeskState.{DeskState, OnlyChanges, OnlyReads, WorksOn}
-use Rattle.rs01_outside.proofs.States.{works-changes, works-reads}
+use Rattle.rs01_outside.specs.DeskState.{DeskState, OnlyReads, WorksOn}
+use Rattle.rs01_outside.proofs.States.{works-reads}
 use Rattle.rs01_demo.specs.Faults.{CountsFaults, WorksOnTwo}
 
 -- work on one name alone

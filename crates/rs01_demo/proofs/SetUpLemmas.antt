@@ -1,5 +1,5 @@
 -- What is left while a demonstration is set up.
-use Rattle.std.proofs.Common.{◌≡◌, ◌≢◌, ◌≤◌, ◌*◌, ℕ, List, [], length, refl, sym, ap, subst, ◌∙◌, inl, inr, arith}
+use Rattle.std.proofs.Common.{◌≡◌, ◌≢◌, ◌≤◌, ◌*◌, ℕ, List, [], length, sym, ap, subst, ◌∙◌, inl, inr, arith}
 use Rattle.std.specs.Prelude.{Err, None, Option, Result, Some}
 use Rattle.std.specs.Option.{unwrap_or}
 use Rattle.rs01_outside.specs.Files.{Files, SameElsewhere, bytes_of}
@@ -15,7 +15,7 @@ use Rattle.rs01_linear.specs.Marking.{IsMixed}
 use Rattle.md5.specs.Md5.{md5}
 use Rattle.rs01_report.specs.declared.reports.CreateReport.{CreateReport}
 use Rattle.rs01_demo.specs.Faults.{IsFault}
-use Rattle.rs01_demo.specs.Plan.{IsInRange, damaged, marked, original, protection}
+use Rattle.rs01_demo.specs.Plan.{IsInRange, marked, original, protection}
 use Rattle.rs01_demo.specs.Steps.{IsPartly, IsSetUp, SetsUp, Stops}
 use Rattle.rs01_demo.specs.declared.plan.Plan.{Plan}
 use Rattle.rs01_demo.specs.declared.refusal.DemoRefusal.{DemoRefusal}

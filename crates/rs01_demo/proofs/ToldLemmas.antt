@@ -1,6 +1,6 @@
 -- What is left and told of a repair.
-use Rattle.std.proofs.Common.{◌≡◌, ◌≢◌, ◌≤◌, ◌+◌, ◌*◌, ◌-◌, ◌++◌, ℕ, Bool, false, List, [], length, refl, sym, ap, subst, ◌∙◌, inl, inr, arith}
-use Rattle.std.specs.Prelude.{Err, IsOk, IsOkAnd, Ok, Option, Result, Some, codes, filter}
+use Rattle.std.proofs.Common.{◌≡◌, ◌≢◌, ◌≤◌, ◌++◌, ℕ, Bool, false, List, [], length, refl, sym, ap, subst, ◌∙◌, inl, inr, arith}
+use Rattle.std.specs.Prelude.{Err, IsOkAnd, Ok, Option, Result, Some, codes, filter}
 use Rattle.std.specs.List.{range_with_len}
 use Rattle.std.specs.Int.{to_le_bytes, w32}
 use Rattle.std.specs.Str.{bytes_eq}
@@ -11,7 +11,7 @@ use Rattle.std.proofs.lemmas.List.Sums.{count_by-le-length, length-filter}
 use Rattle.md5.specs.Md5.{md5}
 use Rattle.md5.proofs.StandardFacts.{length-md5}
 use Rattle.rs01_lists.specs.Bytes.{part}
-use Rattle.rs01_lists.proofs.Parts.{first, inside, skip}
+use Rattle.rs01_lists.proofs.Parts.{first, skip}
 use Rattle.rs01_layers.specs.Sectors.{sector, sectors_of}
 use Rattle.rs01_outside.specs.Files.{Files, SameElsewhere, bytes_of}
 use Rattle.rs01_ecchead.specs.EccFile.{body, ecc_file, head_fields, mark_sector_of}
@@ -25,7 +25,6 @@ use Rattle.rs01_fix.specs.Outcome.{IsOfFiles, IsOfRepair, Refuses, Repairs}
 use Rattle.rs01_fix.specs.Repair as repair
 use Rattle.rs01_fix.specs.declared.refusal.FixRefusal.{FixRefusal}
 use Rattle.rs01_fix.specs.declared.refusal.FixRefusal.TheVariants.{Body, Head, NoFile, OutOfMemory, ReadFault, Size, WriteFault}
-use Rattle.rs01_report.specs.declared.reports.DemoReport.{DemoReport}
 use Rattle.rs01_report.specs.declared.reports.FixReport.{FixReport}
 use Rattle.rs01_demo.specs.Answer.{Demos, HasShown}
 use Rattle.rs01_demo.specs.Faults.{IsFault, walk_refusal}

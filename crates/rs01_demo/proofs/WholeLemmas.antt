@@ -1,8 +1,7 @@
 -- No sector is lost and no layer is strange exactly where the repaired image is the one that was made.
-use Rattle.std.proofs.Common.{◌≡◌, ◌≢◌, ◌≤◌, ◌<◌, ◌+◌, ◌*◌, ◌-◌, ◌/◌, ◌%◌, ◌^◌, ◌++◌, ◌∷◌, ℕ, zero, suc, Bool, true, false, cond, List, [], length, take, drop, get_or, refl, sym, ap, subst, ◌∙◌, arith, ⊎_elim, eqb, append-nil}
-use Rattle.std.specs.Prelude.{◌==◌, ◌&&◌, ◌||◌, All, IsOkAnd, Ok, Err, Result, Some, count_by, filter, nat_lt, not, slice_index}
+use Rattle.std.proofs.Common.{◌≡◌, ◌≤◌, ◌<◌, ◌+◌, ◌*◌, ◌-◌, ◌/◌, ◌%◌, ◌^◌, ◌++◌, ◌∷◌, ℕ, zero, suc, Bool, true, false, cond, List, [], length, take, drop, get_or, refl, sym, ap, subst, ◌∙◌, arith, ⊎_elim, eqb, append-nil}
+use Rattle.std.specs.Prelude.{◌==◌, ◌&&◌, ◌||◌, IsOkAnd, Ok, Err, Result, Some, count_by, filter, nat_lt, not, slice_index}
 use Rattle.std.specs.List.{flat_map, range_with_len}
-use Rattle.std.specs.Bool.{Decides}
 use Rattle.std.specs.Str.{bytes_eq}
 use Rattle.std.proofs.Math.Seq.{drop-append-add}
 use Rattle.std.proofs.lemmas.Bool.{cases_Bool, cases_lt, false≢true, le-ltb}
@@ -12,7 +11,7 @@ use Rattle.std.proofs.lemmas.List.Elements.{All-from_get_or}
 use Rattle.std.proofs.lemmas.List.FromFn.{get_or-map-range_with_len}
 use Rattle.std.proofs.lemmas.List.Sums.{length-filter}
 use Rattle.std.proofs.lemmas.Slice.Eq.{bytes_eq-Decides}
-use Rattle.rs01_lists.specs.Bytes.{padded, part, zeros}
+use Rattle.rs01_lists.specs.Bytes.{padded, zeros}
 use Rattle.rs01_layers.specs.Layout.{layer_of}
 use Rattle.rs01_layers.specs.Sectors.{block, last_of, length_of, sector, sectors_of}
 use Rattle.rs01_layers.proofs.BlockLemmas.{get_or-sector, length-block}
@@ -28,7 +27,6 @@ use Rattle.rs01_ecchead.proofs.ReadAgain.{read_again}
 use Rattle.rs01_repair.specs.Inputs.{layer_answer}
 use Rattle.rs01_repair.specs.Intact.{HasTheOthers, IsProtected, gone_in, is_beyond, is_gone}
 use Rattle.rs01_repair.proofs.Intact.{C, N, is_of_image}
-use Rattle.rs01_repair.proofs.HeldLemmas.{present}
 use Rattle.rs01_fix.specs.Answer.{Repaired, answer_with, repaired}
 use Rattle.rs01_fix.specs.ComesBack.{ComesBack}
 use Rattle.rs01_fix.specs.Repair as repair
@@ -201,8 +199,16 @@ file_long : (plan : Plan) (c : Opened) → Setting plan c → length (R plan c).
 unfolding repaired
 file_long plan c set =
     let size = length-fixed_by (D plan c) (damaged plan) (layer_answer (D plan c) (damaged plan)) (is_image (I plan) plan.parity c (proper plan set.range)) (blocks_of (I plan) plan.parity c (damaged plan)) in
-    omega (arith, size, set.range.some_sectors, set.range.lost_are_there, long plan, count plan, ap last_of (long plan),
-    length-marked (I plan) plan.lost (omega (arith, set.range.lost_are_there, long plan)))
+    omega (
+      arith,
+      size,
+      set.range.some_sectors,
+      set.range.lost_are_there,
+      long plan,
+      count plan,
+      ap last_of (long plan),
+      length-marked (I plan) plan.lost (omega (arith, set.range.lost_are_there, long plan)),
+    )
 
 -- where nothing is lost no layer is beyond its bound
 within : (plan : Plan) (c : Opened) (s : ℕ) → ((t : ℕ) → t < N (I plan) → (is_gone (D plan c) (damaged plan) t && is_beyond (D plan c) (damaged plan) t) ≡ false)
@@ -292,9 +298,10 @@ empty (x ∷ xs) e = absurd (omega arith)
 whole_is : (plan : Plan) (c : Opened) → Setting plan c → is_whole (R plan c).report ≡ bytes_eq (R plan c).file (I plan)
 whole_is plan c set =
     let lost = (R plan c).report.lost in
-    same_from_decides {P = (R plan c).file ≡ I plan} (is_whole (R plan c).report) (bytes_eq (R plan c).file (I plan))
-    (λ whole. comes plan c set (empty lost ((Decides-eqb (length lost) 0).0 (and_two (length lost == 0) (length (R plan c).report.strange == 0) whole).0)),
-    λ same. (λ i. (length (nothing_lost plan c set same i) == 0) && (length ((back plan c set).strange i) == 0)))
+    same_from_decides {P = (R plan c).file ≡ I plan} (is_whole (R plan c).report) (bytes_eq (R plan c).file (I plan)) (
+      λ whole. comes plan c set (empty lost ((Decides-eqb (length lost) 0).0 (and_two (length lost == 0) (length (R plan c).report.strange == 0) whole).0)),
+      λ same. (λ i. (length (nothing_lost plan c set same i) == 0) && (length ((back plan c set).strange i) == 0)),
+    )
     (bytes_eq-Decides (R plan c).file (I plan))
 
 by_answer : (answer : Result Opened EccRefusal) (plan : Plan) → IsInRange plan → IsOkAnd answer (IsOfImage (original plan) plan.parity)

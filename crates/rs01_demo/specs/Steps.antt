@@ -1,6 +1,5 @@
 -- What each step of a demonstration leaves of the image and of its error correction file.
 use Rattle.std.specs.Prelude.{ℕ, ◌≡◌, ◌≤◌, ◌+◌, ◌*◌, ◌⊎◌, List, [], length, take, Option, Some, Result, Ok, Err, IsOkAnd}
-use Rattle.std.specs.Str.{bytes_eq}
 use Rattle.md5.specs.Md5.{md5}
 use Rattle.rs01_outside.specs.DeskState.{DeskState}
 use Rattle.rs01_outside.specs.Files.{Files}

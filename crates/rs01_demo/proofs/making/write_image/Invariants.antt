@@ -1,4 +1,4 @@
-use Rattle.std.proofs.Common.{◌≡◌, ◌-◌, ◌*◌, ◌≤◌, [], length}
+use Rattle.std.proofs.Common.{◌≡◌, ◌-◌, ◌≤◌, length}
 use Rattle.rs01_demo.proofs.StepLemmas.{IsMaking}
 use Rattle.rs01_demo.proofs.making.write_image.Given as goal
 
