@@ -1,4 +1,3 @@
-pub mod OwnBytes
 mod Givings
 mod Looks
 mod Makings

@@ -20,7 +20,7 @@ use Rattle.rs01_sums.specs.Crc.{crc}
 use Rattle.rs01_sums.specs.Marker.{marker}
 use Rattle.rs01_ecchead.specs.EccFile.{mark_sector_of, sum_bytes}
 use Rattle.rs01_ecchead.specs.Shown.{IsSector, Shown, shown_in}
-use Rattle.rs01_create.proofs.OwnBytes.{bytes_more, bytes_none, front_of_block, reaches}
+use Rattle.rs01_ecchead.proofs.OwnBytes.{bytes_more, bytes_none, front_of_block, reaches}
 use Rattle.rs01_create.specs.Create.{first_marked}
 use Rattle.rs01_create.specs.Surveyed.{Surveyed}
 use Rattle.rs01_create.specs.declared.found.Seen.{Seen}

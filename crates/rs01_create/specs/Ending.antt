@@ -1,8 +1,9 @@
 -- What ending a file by its header leaves.
-use Rattle.std.specs.Prelude.{ℕ, ◌≡◌, List, ◌++◌, Option, Some, Result, Ok, Err}
+use Rattle.std.specs.Prelude.{ℕ, ◌≡◌, IsTrue, List, ◌++◌, Option, Some, Result, Ok, Err}
 use Rattle.md5.specs.Md5.{Holds, md5}
 use Rattle.md5.specs.declared.Md5.{Md5}
 use Rattle.rs01_lists.specs.Bytes.{zeros}
+use Rattle.rs01_outside.specs.DeskState.{DeskState}
 use Rattle.rs01_outside.specs.Files.{Becomes, Files}
 use Rattle.rs01_ecchead.specs.EccFile.{body, ecc_file, head_fields}
 use Rattle.rs01_ecchead.specs.Head.{fields_of}
@@ -29,3 +30,9 @@ pub record IsWhole (image : List ℕ) (found : Found) (hasher : Md5) (file : Opt
 abbrev pub Ends : {E : Type 0} → (image : List ℕ) → ℕ → (ecc : List ℕ) → (old new : Files) → Result CreateReport E → Type 0
 Ends image r ecc old new (Ok report) = Becomes ecc (ecc_file image r) old new × (report ≡ report_of image r)
 Ends image r ecc old new (Err why) = (before : Option (List ℕ)) → IsUnfinished (head_bytes (head_fields image r)) before (new ecc)
+
+-- the same on a desk that tells its files, of whatever image the body was whole
+abbrev pub TellsEnd : {E : Type 0} → Found → Md5 → (ecc : List ℕ) → (old new : DeskState) → Result CreateReport E → Type 0
+TellsEnd found hasher ecc old new result =
+    IsTrue old.tells → (image : List ℕ) → IsWhole image found hasher (old.files ecc)
+    → Ends image found.plan.shape.parity ecc old.files new.files result

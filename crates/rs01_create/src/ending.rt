@@ -1,8 +1,8 @@
 //! Ending a file by its header.
-ghost use Rattle.std.specs.Prelude.{◌≡◌, IsTrue, List, is_err, ℕ};
+ghost use Rattle.std.specs.Prelude.{◌≡◌, List, is_err, ℕ};
 ghost use Rattle.rs01_outside.specs.DeskState.{OnlyChanges};
 ghost use Rattle.rs01_create.specs.Create.{report_of};
-ghost use Rattle.rs01_create.specs.Ending.{Ends, IsHeadOf, IsWhole};
+ghost use Rattle.rs01_create.specs.Ending.{IsHeadOf, TellsEnd};
 ghost use Rattle.rs01_create.specs.Looking.{IsFoundOf};
 
 use crate::found::Found;
@@ -56,10 +56,7 @@ pub fn end_file<D: Desk>(
     hasher: Md5,
 ) -> Result<CreateReport, Failed>
     ensures changes { OnlyChanges ecc.now (D.state desk.old) (D.state desk.new) (is_err result) }
-    ensures ends { IsTrue (D.state desk.old).tells → (image : List ℕ)
-        → IsWhole image found.now hasher ((D.state desk.old).files ecc.now)
-        → Ends image found.now.plan.shape.parity ecc.now (D.state desk.old).files
-        (D.state desk.new).files result }
+    ensures ends { TellsEnd found.now hasher ecc.now (D.state desk.old) (D.state desk.new) result }
 {
     let body_sum = hasher.finalize();
     let head = head_of(found, body_sum);

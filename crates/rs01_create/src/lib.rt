@@ -20,5 +20,3 @@ pub use refusal::CreateRefusal;
 
 #[cfg(test)]
 mod tests;
-#[cfg(test)]
-mod tests_of_windows;

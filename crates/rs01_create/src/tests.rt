@@ -10,6 +10,8 @@ use std::alloc::{AllocError, Global};
 use std::process::Abort;
 use std::test::Fail;
 
+mod windows;
+
 // An image of zeros, but for some bytes.
 fn image_with(alloc: Global, len: usize, changes: &[(usize, u8)]) -> Result<Vec<u8>, AllocError> {
     let mut image = vec![in alloc; 0u8; len]?;

@@ -1,5 +1,5 @@
 -- What a demonstration makes, damages and repairs.
-use Rattle.std.specs.Prelude.{ℕ, ◌≤◌, ◌*◌, ◌==◌, ◌&&◌, Bool, false, List, ◌++◌, length, drop, Some, Result}
+use Rattle.std.specs.Prelude.{ℕ, ◌≤◌, ◌*◌, ◌==◌, ◌&&◌, Bool, false, List, ◌++◌, codes, length, drop, Some, Result}
 use Rattle.std.specs.List.{flat_map, range_with_len}
 use Rattle.std.specs.Str.{bytes_eq}
 use Rattle.md5.specs.Md5.{md5}
@@ -19,6 +19,13 @@ pub record IsInRange (plan : Plan) : Type 0 where
   pub least_parity : 8 ≤ plan.parity
   pub most_parity : plan.parity ≤ 100
   pub lost_are_there : plan.lost ≤ plan.sectors
+
+-- the two names
+abbrev pub image_name : List ℕ
+image_name = codes "demo.iso"
+
+abbrev pub ecc_name : List ℕ
+ecc_name = codes "demo.ecc"
 
 abbrev pub plan_of : (number sectors parity lost : ℕ) → Plan
 plan_of number sectors parity lost = record { number = number; sectors = sectors; parity = parity; lost = lost }

@@ -1,7 +1,8 @@
 -- What each step of a demonstration leaves of the image and of its error correction file.
-use Rattle.std.specs.Prelude.{ℕ, ◌≡◌, ◌≤◌, ◌+◌, ◌*◌, ◌⊎◌, List, [], length, take, Option, Some, Result, Ok, Err, IsOkAnd}
+use Rattle.std.specs.Prelude.{ℕ, ◌≡◌, ◌≤◌, ◌+◌, ◌*◌, ◌⊎◌, Bool, List, [], length, take, Option, Some, Result, Ok, Err, IfOk, IsOkAnd, IsTrue}
+use Rattle.std.specs.Str.{bytes_eq}
 use Rattle.md5.specs.Md5.{md5}
-use Rattle.rs01_outside.specs.DeskState.{DeskState}
+use Rattle.rs01_outside.specs.DeskState.{DeskState, InFile}
 use Rattle.rs01_outside.specs.Files.{Files}
 use Rattle.rs01_ecchead.specs.EccFile.{head_fields}
 use Rattle.rs01_ecchead.specs.Header.{head_bytes}
@@ -24,6 +25,15 @@ IsPartly whole old new = (new ≡ old) ⊎ ((n : ℕ) × (new ≡ Some (take n w
 abbrev pub MakesImage : {T : Type 0} → (whole name : List ℕ) → (old new : Files) → Result T DemoRefusal → Type 0
 MakesImage whole name old new (Ok value) = new name ≡ Some whole
 MakesImage whole name old new (Err why) = IsPartly whole (old name) (new name)
+
+-- whether a file of the right length is the image, where it is told
+abbrev pub Compares : {E : Type 0} → DeskState → List ℕ → (number sectors : ℕ) → Result Bool E → Type 0
+Compares desk name number sectors result =
+    InFile desk name (λ file. length file ≡ 2048 * sectors → IfOk result (λ same. same ≡ bytes_eq file (image number sectors)))
+
+-- n values more follow the one at a place, and the last one is given
+abbrev pub Follows : {E : Type 0} → (at n before : ℕ) → Result ℕ E → Type 0
+Follows at n before result = (number : ℕ) → before ≡ value_at number at → IfOk result (λ last. last ≡ value_at number (at + n))
 
 -- n bytes more of an image follow those that are there, where the value of the last one is known
 abbrev pub GoesOn : {T E : Type 0} → (at n value : ℕ) → (name : List ℕ) → (old new : DeskState) → Result T E → Type 0
@@ -92,3 +102,11 @@ pub record IsFound (plan : Plan) (image ecc : List ℕ) (files : Files) (sum : L
 pub record IsToldOf (plan : Plan) (repaired : Repaired) (shown : Demonstration) : Type 0 where
   pub report_is : shown.report ≡ report_of plan repaired
   pub whole_is : shown.whole ≡ is_whole repaired.report
+
+-- where it is told, it is that of whatever repair was found
+abbrev pub TellsOf : {E : Type 0} → Plan → (image ecc : List ℕ) → Files → List ℕ → FixReport → Result Demonstration E → Type 0
+TellsOf plan image ecc files sum fixed result = (repaired : Repaired) → IsFound plan image ecc files sum fixed repaired → IfOk result (IsToldOf plan repaired)
+
+-- the steps before the repair, on a desk that tells its files
+abbrev pub SetsUpOn : Plan → (image ecc : List ℕ) → (old new : DeskState) → Result (List ℕ) DemoRefusal → Type 0
+SetsUpOn plan image ecc old new result = IsTrue old.tells → SetsUp plan image ecc old.files new.files result

@@ -6,6 +6,7 @@ ghost use Rattle.rs01_outside.specs.DeskState.{InFile, OnlyReads};
 ghost use Rattle.rs01_ecchead.specs.Pieces.{InFileTo};
 ghost use Rattle.rs01_ecchead.specs.Walked.{is_walk_fault};
 ghost use Rattle.rs01_demo.specs.Generator.{image};
+ghost use Rattle.rs01_demo.specs.Steps.{Compares};
 
 use crate::generator::fill;
 use crate::making::{RUN, run_of};
@@ -43,8 +44,7 @@ fn has_bytes<D: Desk>(
     requires made { length made.old ≡ 131072 }
     requires found { length found.old ≡ 131072 }
     ensures reads { OnlyReads (D.state desk.old) (D.state desk.new) (is_err result) }
-    ensures same { InFile (D.state desk.old) name.now (λ file. length file ≡ 2048 * sectors
-        → IfOk result (λ same. same ≡ bytes_eq file (image number sectors))) }
+    ensures same { Compares (D.state desk.old) name.now number sectors result }
 {
     let mut value = number;
     let mut first = 0u32;

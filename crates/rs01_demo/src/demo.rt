@@ -1,11 +1,12 @@
 //! The steps of a demonstration, one after the other.
-ghost use Rattle.std.specs.Prelude.{◌≤◌, ◌≢◌, IsTrue, codes, false};
+ghost use Rattle.std.specs.Prelude.{◌≤◌, ◌≢◌, false};
 ghost use Rattle.rs01_create.specs.Answer as made;
+ghost use Rattle.rs01_create.specs.Answer.{Answers};
 ghost use Rattle.rs01_fix.specs.Outcome as fixed;
 ghost use Rattle.rs01_demo.specs.Answer.{DemosOn};
 ghost use Rattle.rs01_demo.specs.Faults.{WorksTwo};
-ghost use Rattle.rs01_demo.specs.Plan.{IsInRange, plan_of};
-ghost use Rattle.rs01_demo.specs.Steps.{SetsUp};
+ghost use Rattle.rs01_demo.specs.Plan.{IsInRange, ecc_name, image_name, plan_of};
+ghost use Rattle.rs01_demo.specs.Steps.{SetsUpOn};
 
 use crate::demonstration::Demonstration;
 use crate::making::make_image;
@@ -31,8 +32,7 @@ fn protect<D: Desk>(
     requires least { 8 ≤ parity }
     requires most { parity ≤ 100 }
     ensures works { made.Works ecc.now (D.state desk.old) (D.state desk.new) result }
-    ensures answer { made.Answers image.now ecc.now parity (D.state desk.old) (D.state desk.new)
-        result }
+    ensures answer { Answers image.now ecc.now parity (D.state desk.old) (D.state desk.new) result }
 {
     create_one(alloc, desk, image, ecc, parity)
 }
@@ -63,8 +63,7 @@ fn set_up<D: Desk>(
     requires differ { image.now ≢ ecc.now }
     requires range { IsInRange plan }
     ensures works { WorksTwo image.now ecc.now (D.state desk.old) (D.state desk.new) result }
-    ensures left { IsTrue (D.state desk.old).tells → SetsUp plan image.now ecc.now
-        (D.state desk.old).files (D.state desk.new).files result }
+    ensures left { SetsUpOn plan image.now ecc.now (D.state desk.old) (D.state desk.new) result }
 {
     make_image(alloc, desk, image, plan.number, plan.sectors)?;
     let made = protect(alloc, desk, image, ecc, plan.parity)?;
@@ -111,10 +110,9 @@ pub fn demo_one<D: Desk>(
     lost: u32,
 ) -> Result<Demonstration, DemoRefusal>
     requires { IsInRange (plan_of number sectors parity lost) }
-    ensures works { WorksTwo (codes "demo.iso") (codes "demo.ecc")
+    ensures works { WorksTwo image_name ecc_name (D.state desk.old) (D.state desk.new) result }
+    ensures answer { DemosOn (plan_of number sectors parity lost) image_name ecc_name
         (D.state desk.old) (D.state desk.new) result }
-    ensures answer { DemosOn (plan_of number sectors parity lost)
-        (codes "demo.iso") (codes "demo.ecc") (D.state desk.old) (D.state desk.new) result }
 {
     let plan = Plan {
         number,

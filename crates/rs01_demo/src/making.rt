@@ -1,10 +1,10 @@
 //! Making the image.
-ghost use Rattle.std.specs.Prelude.{◌≡◌, ◌+◌, ◌-◌, ◌*◌, ◌<◌, IfErr, IfOk, IsTrue, [], is_err, length, min, ℕ};
+ghost use Rattle.std.specs.Prelude.{◌≡◌, ◌+◌, ◌-◌, ◌*◌, ◌<◌, IfErr, IsTrue, [], is_err, length, min};
 ghost use Rattle.rs01_outside.specs.DeskState.{OnlyChanges};
 ghost use Rattle.rs01_linear.specs.Marking.{Extends};
 ghost use Rattle.rs01_demo.specs.Faults.{IsFault, Works};
-ghost use Rattle.rs01_demo.specs.Generator.{image, value_at};
-ghost use Rattle.rs01_demo.specs.Steps.{GoesOn, MakesImage};
+ghost use Rattle.rs01_demo.specs.Generator.{image};
+ghost use Rattle.rs01_demo.specs.Steps.{Follows, GoesOn, MakesImage};
 
 use crate::generator::fill;
 use crate::refusal::DemoRefusal;
@@ -28,16 +28,15 @@ fn write_run<D: Desk>(
     desk: &mut D,
     name: &str,
     first: u32,
-    value: u64,
+    before: u64,
     run: &mut [u8],
 ) -> Result<u64, Failed>
     ensures changes { OnlyChanges name.now (D.state desk.old) (D.state desk.new) (is_err result) }
-    ensures value { (number : ℕ) → value ≡ value_at number (2048 * first)
-        → IfOk result (λ last. last ≡ value_at number (2048 * first + length run.old)) }
-    ensures written { GoesOn (2048 * first) (length run.old) value name.now
+    ensures value { Follows (2048 * first) (length run.old) before result }
+    ensures written { GoesOn (2048 * first) (length run.old) before name.now
         (D.state desk.old) (D.state desk.new) result }
 {
-    let last = fill(value, run);
+    let last = fill(before, run);
     match desk.write_at(name, 2048 * u64::from(first), run) {
         Ok(()) => Ok(last),
         Err(Failed) => Err(Failed),

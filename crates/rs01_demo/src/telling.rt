@@ -1,11 +1,10 @@
 //! Telling what a repair came to.
-ghost use Rattle.std.specs.Prelude.{◌≡◌, ◌≤◌, IfErr, IfOk, IsTrue, List, false, is_err, length, min, ℕ};
+ghost use Rattle.std.specs.Prelude.{◌≡◌, ◌≤◌, IfOk, IsTrue, is_err, length};
 ghost use Rattle.rs01_lists.specs.Bytes.{part};
 ghost use Rattle.rs01_outside.specs.DeskState.{OnlyReads};
 ghost use Rattle.rs01_ecchead.specs.Pieces.{InFileTo};
 ghost use Rattle.rs01_ecchead.specs.Walked.{is_walk_fault};
-ghost use Rattle.rs01_fix.specs.Answer.{Repaired};
-ghost use Rattle.rs01_demo.specs.Steps.{IsFound, IsToldOf};
+ghost use Rattle.rs01_demo.specs.Steps.{TellsOf};
 ghost use Rattle.rs01_demo.specs.Plan.{is_whole};
 
 use crate::comparing::is_image;
@@ -55,9 +54,8 @@ pub fn tell<D: Desk>(
 ) -> Result<Demonstration, WalkFault>
     requires { 1 ≤ plan.sectors }
     ensures reads { OnlyReads (D.state desk.old) (D.state desk.new) (is_walk_fault result) }
-    ensures told { IsTrue (D.state desk.old).tells → (repaired : Repaired)
-        → IsFound plan image.now ecc.now (D.state desk.old).files image_sum fixed.now repaired
-        → IfOk result (IsToldOf plan repaired) }
+    ensures told { IsTrue (D.state desk.old).tells
+        → TellsOf plan image.now ecc.now (D.state desk.old).files image_sum fixed.now result }
 {
     let body_sum = recorded_sum(desk, ecc)?;
     let original = is_image(alloc, desk, image, plan.number, plan.sectors)?;

@@ -8,3 +8,5 @@ pub mod Parts
 mod RoundTrip
 mod RecordedSums
 pub mod ReadAgain
+pub mod OwnBytes
+pub mod Shapes

@@ -1,7 +1,7 @@
 //! Reading many sectors of an image at once.
-ghost use Rattle.std.specs.Prelude.{◌≡◌, ◌+◌, ◌/◌, ◌%◌, ◌≤◌, OnOk, is_err, length};
-ghost use Rattle.rs01_outside.specs.DeskState.{InFile, OnlyReads};
-ghost use Rattle.rs01_ecchead.specs.Runs.{IsRun};
+ghost use Rattle.std.specs.Prelude.{◌≡◌, ◌+◌, ◌/◌, ◌%◌, ◌≤◌, is_err, length};
+ghost use Rattle.rs01_outside.specs.DeskState.{OnlyReads};
+ghost use Rattle.rs01_ecchead.specs.Runs.{ReadsRun};
 
 use crate::sectors::read_padded;
 use rs01_layers::Extent;
@@ -22,8 +22,7 @@ pub fn read_run<D: Desk>(
     requires whole { length into.old % 2048 ≡ 0 }
     requires inside { first + length into.old / 2048 ≤ extent.now.sectors }
     ensures reads { OnlyReads (D.state desk.old) (D.state desk.new) (is_err result) }
-    ensures blocks { InFile (D.state desk.old) name.now (λ file.
-        OnOk result (IsRun file extent.now.sectors extent.now.last_bytes first into.new)) }
+    ensures blocks { ReadsRun (D.state desk.old) name.now extent.now first into.new result }
 {
     let at = 2048 * u64::from(first);
     let own = extent.image_len().saturating_sub(at);

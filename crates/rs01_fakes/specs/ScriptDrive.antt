@@ -3,7 +3,7 @@ use Rattle.std.specs.Prelude.{ℕ, ◌≡◌, ◌<◌, ◌≤◌, Bool, true, fa
 use Rattle.rs01_lists.specs.Bytes.{zeros}
 use Rattle.rs01_layers.specs.Sectors.{block, sectors_of}
 use Rattle.rs01_outside.specs.DriveState.{Answers, DriveState}
-use Rattle.rs01_outside.specs.DriveView.{Answer, DriveView}
+use Rattle.rs01_outside.specs.DriveView.{Answer, DriveView, Gives, answer_at}
 use Rattle.rs01_fakes.specs.Marks.{faults_after}
 use Rattle.rs01_fakes.specs.Scripts.{add_coming, answer_of, coming_in, set_steady, steady_in}
 use Rattle.rs01_fakes.specs.declared.scripts.Script.{Script}
@@ -76,6 +76,10 @@ pub record Answered (view : DriveView) (old new : ScriptDrive) (failed : Bool) :
   pub state : Answers (drive_state old) (drive_state new) view failed
   pub faults : new.faults ≡ faults_after old.faults failed
   pub room : ask_room_of old ≤ ask_room_of new
+
+-- what a read of a sector gave is the drive's answer, where it tells
+abbrev pub TellsGiven : {E : Type 0} → (old new : ScriptDrive) → (sector : ℕ) → (into : List ℕ) → Result Unit E → Type 0
+TellsGiven old new sector into result = IsTrue (tells_of new) → Gives (answer_at (view_of old) sector) into result
 
 -- a read stops the telling only where it fails and has to grow; the number of sectors, and whether it is told, stay in any case
 pub record Records (old new : ScriptDrive) (failed : Bool) : Type 0 where

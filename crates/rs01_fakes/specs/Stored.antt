@@ -1,9 +1,9 @@
 -- Files that a map holds.
-use Rattle.std.specs.Prelude.{ℕ, ◌+◌, ◌≡◌, ◌≤◌, ◌⊎◌, List, length, take, Vec, String, Option, Some, None, Result, Ok, Err, IsOk, IsSomeAnd}
+use Rattle.std.specs.Prelude.{ℕ, ◌+◌, ◌≡◌, ◌≤◌, ◌⊎◌, List, [], length, take, Vec, String, Option, Some, None, Result, Ok, Err, IsOk, IsSomeAnd}
 use Rattle.std.specs.declared.alloc.Global.{Global}
 use Rattle.std.specs.Option.{option_map}
 use Rattle.std.specs.BTreeMap.{BTreeMap, get_by_text}
-use Rattle.rs01_outside.specs.Files.{Files, Writes}
+use Rattle.rs01_outside.specs.Files.{Becomes, Files, Writes}
 
 -- the files that a map holds by their names
 abbrev pub files_in : BTreeMap (String Global) (Vec ℕ Global) → Files
@@ -13,6 +13,10 @@ files_in map name = option_map (λ bytes. bytes.items) (get_by_text map name)
 abbrev pub DoneOrNot : {E : Type 0} → (Files → Files → Type 0) → Files → Files → Result Unit E → Type 0
 DoneOrNot Change old new (Ok u) = Change old new
 DoneOrNot Change old new (Err e) = new ≡ old
+
+-- a file is there and empty, or nothing changed
+abbrev pub MakesOrNot : {E : Type 0} → List ℕ → Files → Files → Result Unit E → Type 0
+MakesOrNot name = DoneOrNot (Becomes name [])
 
 -- a write of so many bytes at a place ends within the named file
 abbrev pub IsWithin : Files → List ℕ → ℕ → ℕ → Type 0

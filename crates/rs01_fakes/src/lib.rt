@@ -10,6 +10,7 @@ mod marks;
 mod meeting;
 mod memory_desk;
 mod memory_sink;
+mod numbering;
 mod once_refusing;
 mod sample;
 mod script_drive;
@@ -19,6 +20,7 @@ mod stored;
 pub use meeting::{MeetDrive, MeetGate};
 pub use memory_desk::MemoryDesk;
 pub use memory_sink::MemorySink;
+pub use numbering::{Numbering, numbered_layer};
 pub use once_refusing::OnceRefusing;
 pub use sample::{sample_desk, sample_ecc};
 pub use script_drive::ScriptDrive;
@@ -26,5 +28,3 @@ pub use scripts::Script;
 
 #[cfg(test)]
 mod tests;
-#[cfg(test)]
-mod tests_of_meeting;

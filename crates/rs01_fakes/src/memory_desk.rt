@@ -1,9 +1,9 @@
 //! Named files in memory.
-ghost use Rattle.std.specs.Prelude.{◌≡◌, ◌≤◌, IfOk, IsOk, IsSome, IsTrue, None, OnErr, OnOk, is_err, length, not, take, []};
+ghost use Rattle.std.specs.Prelude.{◌≡◌, ◌≤◌, IfOk, IsOk, IsSome, IsTrue, None, is_err, length, not, take};
 ghost use Rattle.std.specs.Option.{option_copied};
 ghost use Rattle.rs01_outside.specs.Files.{Becomes, ReadsAt, Shortens, SizeIs};
 ghost use Rattle.rs01_fakes.specs.Marks.{call_is_marked, unmarked};
-ghost use Rattle.rs01_fakes.specs.Stored.{DoneOrNot, KeepsPrefix, files_in};
+ghost use Rattle.rs01_fakes.specs.Stored.{DoneOrNot, KeepsPrefix, MakesOrNot, files_in};
 
 use crate::marks::{self, Marks};
 use crate::stored::{self, StoredFiles};
@@ -167,8 +167,7 @@ impl Desk for MemoryDesk {
 
     fn make(&mut self, name: &str) -> Result<(), Failed>
         ensures changes { CallChanges name.now self.old self.new (is_err result) }
-        ensures made { DoneOrNot (Becomes name.now [])
-            (files_of self.old) (files_of self.new) result }
+        ensures made { MakesOrNot name.now (files_of self.old) (files_of self.new) result }
         ensures there { IsTrue (not (call_is_marked (marks_of self.old)))
             → IsSome (files_of self.old name.now) → IsOk result }
     {

@@ -1,6 +1,6 @@
 //! A drive in memory.
 ghost use Rattle.std.specs.Prelude.{◌≡◌, ◌+◌, ◌*◌, ◌<◌, ◌≤◌, IfOk, IsNone, IsTrue, is_err, not, slice_get};
-ghost use Rattle.rs01_outside.specs.DriveView.{Counts, Gives, answer_at, ask};
+ghost use Rattle.rs01_outside.specs.DriveView.{Counts, ask};
 
 use crate::marks;
 use crate::scripts::{self, Answer, Pending, Script};
@@ -112,7 +112,7 @@ impl ScriptDrive {
 }
 
 impl Drive for ScriptDrive {
-    ghost use Rattle.rs01_fakes.specs.ScriptDrive.{Answered, Records, drive_state, tells_of, view_of};
+    ghost use Rattle.rs01_fakes.specs.ScriptDrive.{Answered, Records, TellsGiven, drive_state, view_of};
 
     ghost state = { drive_state };
 
@@ -131,8 +131,7 @@ impl Drive for ScriptDrive {
     fn read(&mut self, sector: u32, into: &mut [u8; 2048]) -> Result<(), Failed>
         ensures answers { let view = ask (view_of self.old) sector in
             Answered view self.old self.new (is_err result) }
-        ensures gives { IsTrue (tells_of self.new)
-            → Gives (answer_at (view_of self.old) sector) into.new result }
+        ensures gives { TellsGiven self.old self.new sector into.new result }
         ensures records { Records self.old self.new (is_err result) }
     {
         match self.asked.push(sector) {

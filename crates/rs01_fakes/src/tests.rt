@@ -3,6 +3,8 @@ use rs01_layers::Bytes;
 use rs01_outside::{Desk, Drive, Failed, Sink};
 use std::alloc::{AllocError, Global};
 
+mod meeting;
+
 // Whether the file under a name is this one.
 fn holds(desk: &MemoryDesk, name: &str, want: &[u8]) -> bool {
     match desk.file(name) {

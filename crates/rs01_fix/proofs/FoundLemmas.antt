@@ -7,7 +7,7 @@ use Rattle.rs01_ecchead.specs.Erased.{block_in, is_absent, known_by, known_of}
 use Rattle.rs01_repair.specs.Finding.{HasEcc, Sources, answer_to, is_gone_in, is_past, said}
 use Rattle.rs01_repair.specs.declared.found.Found.{Found}
 use Rattle.rs01_repair.proofs.CorrectLemmas.{answer_has_blocks}
-use Rattle.rs01_repair.proofs.FoundLemmas.{is_shape}
+use Rattle.rs01_ecchead.proofs.Shapes.{is_shape}
 use Rattle.rs01_fix.specs.Repair.{HaveBlocks}
 use Rattle.rs01_fix.specs.Steps.{Leads}
 use Rattle.rs01_fix.proofs.FixedLemmas.{IsImage}

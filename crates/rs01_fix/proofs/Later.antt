@@ -18,7 +18,8 @@ use Rattle.rs01_repair.specs.Finding.{Sources, answer_to, fields_in, is_erased_b
 use Rattle.rs01_repair.specs.Given.{IsInputNow}
 use Rattle.rs01_repair.specs.Inputs.{IsInput, flag_at, flags_at, place_number}
 use Rattle.rs01_repair.specs.declared.found.Found.{Found}
-use Rattle.rs01_repair.proofs.FoundLemmas.{is_shape, present, reaches}
+use Rattle.rs01_ecchead.proofs.Shapes.{is_shape}
+use Rattle.rs01_repair.proofs.FoundLemmas.{present, reaches}
 use Rattle.rs01_repair.proofs.InputLemmas.{inputs_are_answered, same_where_held}
 use Rattle.rs01_repair.proofs.PartLemmas.{same_flag}
 use Rattle.rs01_fix.specs.Progress.{IsAhead, Stands}

@@ -1,5 +1,4 @@
 mod FoundLemmas
-mod PutLemmas
 mod ProgressLemmas
 mod OrderLemmas
 pub mod FixedLemmas

@@ -7,7 +7,7 @@ use Rattle.std.proofs.lemmas.Grind.{same_number_lists}
 use Rattle.rs01_outside.specs.Files.{put_at}
 use Rattle.rs01_fix.specs.Between.{IsBetween}
 use Rattle.rs01_fix.specs.Progress.{Holds}
-use Rattle.rs01_fix.proofs.PutLemmas.{length-put_at, put_at-inside, put_at-before, put_at-behind}
+use Rattle.rs01_outside.proofs.PutLemmas.{length-put_at, put_at-inside, put_at-before, put_at-behind}
 
 -- an image of `len` bytes in `count` sectors, which are whole but for the last one
 pub record Sizes (count len : ℕ) (size : ℕ → ℕ) : Type 0 where

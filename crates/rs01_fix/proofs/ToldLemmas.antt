@@ -8,7 +8,7 @@ use Rattle.rs01_repair.specs.Finding.{Sources, answer_to, is_gone_in, said}
 use Rattle.rs01_repair.specs.Restored.{is_restored}
 use Rattle.rs01_repair.specs.declared.found.Found.{Found}
 use Rattle.rs01_repair.proofs.FlagLemmas.{flag_of}
-use Rattle.rs01_repair.proofs.FoundLemmas.{is_shape}
+use Rattle.rs01_ecchead.proofs.Shapes.{is_shape}
 use Rattle.rs01_fix.specs.Repair.{is_lost, is_mended}
 use Rattle.rs01_fix.specs.Steps.{FlagLayers, is_told}
 use Rattle.rs01_fix.proofs.FixedLemmas.{mended_is}

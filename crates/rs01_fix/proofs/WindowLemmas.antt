@@ -21,7 +21,7 @@ use Rattle.rs01_repair.specs.Inputs.{flags_at}
 use Rattle.rs01_repair.specs.Restored.{IsBlockWhere, NamesSector, is_restored, restored_at}
 use Rattle.rs01_repair.specs.declared.found.Found.{Found}
 use Rattle.rs01_repair.proofs.CorrectLemmas.{bad_sum_flagged, correct_has_blocks}
-use Rattle.rs01_repair.proofs.FoundLemmas.{is_shape}
+use Rattle.rs01_ecchead.proofs.Shapes.{is_shape}
 use Rattle.rs01_repair.proofs.InputLemmas.{flag_of_sector}
 use Rattle.rs01_repair.proofs.Numbered.{one_more, one_more_piece}
 use Rattle.rs01_fix.specs.Places.{HasWholeBlocks}

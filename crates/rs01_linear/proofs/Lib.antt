@@ -12,7 +12,6 @@ mod MediumLemmas
 pub mod MixedLemmas
 mod PassLemmas
 mod PrepareLemmas
-pub mod PutLemmas
 mod RunLemmas
 mod StandLemmas
 pub mod TellLemmas

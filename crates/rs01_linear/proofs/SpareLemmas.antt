@@ -17,7 +17,7 @@ use Rattle.rs01_linear.specs.declared.fate.Fate.{Fate}
 use Rattle.rs01_linear.specs.declared.fate.Fate.TheVariants.{Kept}
 use Rattle.rs01_linear.specs.declared.reading.Reading.{Reading}
 use Rattle.rs01_linear.specs.declared.refusal.ReadRefusal.{ReadRefusal}
-use Rattle.rs01_linear.proofs.PutLemmas.{length-put_at, put_at-before, put_at-behind}
+use Rattle.rs01_outside.proofs.PutLemmas.{length-put_at, put_at-before, put_at-behind}
 
 -- a byte that is to stay doesn't stand in a run of sectors that weren't good
 apart : (known : Known) (y : List ℕ) (first past k n : ℕ) → first < past → n ≤ place known past - place known first

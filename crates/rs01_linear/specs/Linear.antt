@@ -10,6 +10,7 @@ use Rattle.rs01_report.specs.declared.reports.ReadReport.{ReadReport}
 use Rattle.rs01_linear.specs.Course.{Manner, manner_of}
 use Rattle.rs01_linear.specs.Medium.{known_of}
 use Rattle.rs01_linear.specs.Outcome.{IsLeftAt, IsReadInto}
+use Rattle.rs01_linear.specs.Report.{IsFresh}
 use Rattle.rs01_linear.specs.Spared.{Guards, Spares}
 use Rattle.rs01_linear.specs.declared.medium.Medium.{Medium}
 use Rattle.rs01_linear.specs.declared.prepared.Prepared.{Prepared}
@@ -29,6 +30,14 @@ pub record IsPrepared (known : Known) (old new : Option (List ℕ)) (prepared : 
 abbrev pub Prepares : Known → (old new : Option (List ℕ)) → Result Prepared ReadRefusal → Type 0
 Prepares known old new (Ok prepared) = IsPrepared known old new prepared
 Prepares known old new (Err why) = (new ≡ old) ⊎ IsMixed (marked known (unwrap_or old [])) (unwrap_or old []) new
+
+-- the same of the image file of a medium, under a name, where the desk tells
+abbrev pub TellsReady : Medium → List ℕ → (old new : DeskState) → Result Prepared ReadRefusal → Type 0
+TellsReady medium name old new result = IsTrue old.tells → Prepares (known_of medium) (old.files name) (new.files name) result
+
+-- of each of so many sectors it is kept that the image file had it good, or that it wasn't asked for yet
+abbrev pub IsFreshOf : ℕ → Prepared → Type 0
+IsFreshOf sectors prepared = IsFresh sectors prepared.fates.items
 
 -- how reading into an image file that is ready ends
 abbrev pub ReadsPrepared : Known → Manner → Option (List ℕ) → (old new : RackState) → Option (List ℕ) → Result ReadReport ReadRefusal → Type 0

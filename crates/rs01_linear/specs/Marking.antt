@@ -1,9 +1,12 @@
 -- How the bytes of a file come to be those of another one, first to last.
-use Rattle.std.specs.Prelude.{ℕ, ◌≡◌, ◌*◌, ◌≤◌, ◌<◌, Bool, true, false, IsTrue, List, Option, Some, Result, Ok, Err, length, min, slice_get}
+use Rattle.std.specs.Prelude.{ℕ, ◌≡◌, ◌-◌, ◌*◌, ◌≤◌, ◌<◌, Bool, true, false, IsTrue, List, Option, Some, Result, Ok, Err, length, min, slice_get, take}
+use Rattle.std.specs.List.{flat_map, range_with_len}
 use Rattle.std.specs.Option.{option_map}
 use Rattle.rs01_outside.specs.DeskState.{DeskState}
 use Rattle.rs01_ecchead.specs.Erased.{Known, image_len}
+use Rattle.rs01_layers.specs.Sectors.{length_of}
 use Rattle.rs01_layers.specs.declared.extent.Extent.{Extent}
+use Rattle.rs01_sums.specs.Marker.{marker}
 use Rattle.rs01_linear.specs.Asking.{known_with}
 use Rattle.rs01_linear.specs.Left.{first_fates, marked, mixed}
 use Rattle.rs01_linear.specs.declared.fate.Fate.{Fate}
@@ -36,6 +39,11 @@ pub record IsRun (fates : List Fate) (first past : ℕ) : Type 0 where
   pub inside : past ≤ length fates
   pub all : (k : ℕ) → first ≤ k → k < past → option_map is_left_out (slice_get fates k) ≡ Some true
   pub none : past ≡ first → option_map is_left_out (slice_get fates first) ≡ Some false
+
+-- the markers of neighbouring sectors, each as long as its sector
+abbrev pub markers_of : Extent → (first past : ℕ) → List ℕ
+markers_of extent first past =
+    flat_map (λ s. take (length_of extent.sectors extent.last_bytes s) (marker s)) (range_with_len first (past - first))
 
 -- marking of the sectors that aren't good in the file y: below the first they had their markers, and now they do below
 -- where the answer says, and after a fault to some place

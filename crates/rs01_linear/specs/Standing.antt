@@ -30,6 +30,10 @@ abbrev pub PutsRun : (old new : Files) → (name : List ℕ) → (past : ℕ) �
 PutsRun old new name past reading result =
     ((past ≤ reading.first) × (new ≡ old)) ⊎ ((reading.first < past) × WritesAt old new name (2048 * reading.first) reading.bytes.items result)
 
+-- the same of a call on a desk that tells
+abbrev pub TellsPut : List ℕ → ℕ → (old new : DeskState) → Reading → Result Unit ReadRefusal → Type 0
+TellsPut name past old new reading result = IsTrue old.tells → PutsRun old.files new.files name past reading result
+
 -- an empty run begins with a sector, and none is asked for before the same place
 pub record Begins (first : ℕ) (was is : Reading) : Type 0 where
   pub first_is : is.first ≡ first

@@ -1,9 +1,8 @@
 //! Putting the markers of all sectors that aren't good, before anything is asked for.
-ghost use Rattle.std.specs.Prelude.{◌≡◌, ◌-◌, ◌<◌, ◌≤◌, ◌++◌, IfOk, OnOk, length, take};
-ghost use Rattle.std.specs.List.{flat_map, range_with_len};
+ghost use Rattle.std.specs.Prelude.{◌≡◌, ◌<◌, ◌≤◌, ◌++◌, IfOk, OnOk, length, take};
 ghost use Rattle.rs01_layers.specs.Sectors.{length_of};
 ghost use Rattle.rs01_sums.specs.Marker.{marker};
-ghost use Rattle.rs01_linear.specs.Marking.{IsRun, Marks, is_left_out};
+ghost use Rattle.rs01_linear.specs.Marking.{IsRun, Marks, is_left_out, markers_of};
 ghost use Rattle.rs01_linear.specs.Refusal.{Writes};
 
 use crate::fate::Fate;
@@ -65,9 +64,7 @@ fn fill_markers(
 ) -> Result<(), AllocError>
     requires order { first ≤ past }
     requires inside { past ≤ extent.now.sectors }
-    ensures { OnOk result (bytes.new.items
-        ≡ flat_map (λ s. take (length_of extent.now.sectors extent.now.last_bytes s) (marker s))
-        (range_with_len first (past - first))) }
+    ensures { OnOk result (bytes.new.items ≡ markers_of extent.now first past) }
 {
     bytes.clear();
     for sector in first..past {

@@ -1,7 +1,5 @@
 //! Getting an image file ready, before a sector is asked for.
 ghost use Rattle.std.specs.Prelude.{IfErr, IfOk, IsTrue};
-ghost use Rattle.rs01_linear.specs.Medium.{known_of};
-ghost use Rattle.rs01_linear.specs.Report.{IsFresh};
 ghost use Rattle.rs01_linear.specs.Refusal.{IsOfWork, WorksBy};
 
 use crate::fate::Fate;
@@ -21,7 +19,7 @@ pub struct Prepared {
     pub fates: Vec<Fate>,
 }
 
-ghost use Rattle.rs01_linear.specs.Linear.{Prepares, Starts};
+ghost use Rattle.rs01_linear.specs.Linear.{IsFreshOf, Starts, TellsReady};
 
 // How many bytes the image file has. Where it isn't there it is made.
 fn start_image<D: Desk>(desk: &mut D, name: &str) -> Result<u64, ReadRefusal>
@@ -50,10 +48,8 @@ pub fn prepare<D: Desk>(
 ) -> Result<Prepared, ReadRefusal>
     ensures works { WorksBy name.now (D.state desk.old) (D.state desk.new) result }
     ensures causes { IfErr result IsOfWork }
-    ensures fresh { IfOk result (λ prepared. IsFresh medium.now.extent.sectors
-        prepared.fates.items) }
-    ensures told { IsTrue (D.state desk.old).tells → Prepares (known_of medium.now)
-        ((D.state desk.old).files name.now) ((D.state desk.new).files name.now) result }
+    ensures fresh { IfOk result (IsFreshOf medium.now.extent.sectors) }
+    ensures told { TellsReady medium.now name.now (D.state desk.old) (D.state desk.new) result }
 {
     let size = start_image(desk, name)?;
     let fates = judge_image(alloc, desk, name, size, medium)?;

@@ -1,5 +1,5 @@
 //! Passing the sectors of a medium in rising order.
-ghost use Rattle.std.specs.Prelude.{◌≡◌, ◌<◌, ◌++◌, IsTrue, OnOk, length, take};
+ghost use Rattle.std.specs.Prelude.{◌≡◌, ◌<◌, ◌++◌, OnOk, length, take};
 ghost use Rattle.rs01_layers.specs.Sectors.{length_of};
 ghost use Rattle.rs01_linear.specs.Medium.{known_of};
 ghost use Rattle.rs01_linear.specs.Racks.{OnRack};
@@ -29,7 +29,7 @@ pub struct Reading {
     pub bytes: Vec<u8>,
 }
 
-ghost use Rattle.rs01_linear.specs.Standing.{Begins, HasRun, Keeps, PutsRun};
+ghost use Rattle.rs01_linear.specs.Standing.{Begins, HasRun, Keeps, TellsPut};
 ghost use Rattle.rs01_linear.specs.Standing.{TellsPass, TellsPasses, TellsTake};
 
 // What becomes of a sector that was asked for.
@@ -103,8 +103,7 @@ fn flush<D: Desk>(
     ensures writes { Writes name.now (D.state desk.old) (D.state desk.new) result }
     ensures fates { reading.new.fates.items ≡ reading.old.fates.items }
     ensures begins { OnOk result (Begins past reading.old reading.new) }
-    ensures put { IsTrue (D.state desk.old).tells → PutsRun (D.state desk.old).files
-        (D.state desk.new).files name.now past reading.old result }
+    ensures put { TellsPut name.now past (D.state desk.old) (D.state desk.new) reading.old result }
 {
     if reading.first < past {
         match desk.write_at(name, 2048 * u64::from(reading.first), &reading.bytes) {

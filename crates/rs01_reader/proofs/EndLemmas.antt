@@ -40,7 +40,7 @@ use Rattle.rs01_reader.specs.declared.stop.Stop.{Stop}
 use Rattle.rs01_reader.specs.declared.stop.Stop.TheVariants.{OutOfMemory, ReadFault, WriteFault}
 use Rattle.rs01_reader.proofs.GiveLemmas.{settled-stays}
 use Rattle.rs01_reader.proofs.OnLemmas.{rose-from}
-use Rattle.rs01_reader.proofs.ReadLemmas.{is_shape}
+use Rattle.rs01_ecchead.proofs.Shapes.{is_shape}
 
 -- what lies in a layer, by its places
 

@@ -7,7 +7,7 @@ use Rattle.std.proofs.Math.Seq.{take-length}
 use Rattle.rs01_lists.specs.Bytes.{padded, part, zeros}
 use Rattle.rs01_lists.proofs.Padding.{length-padded}
 use Rattle.rs01_layers.specs.Blocks.{blocks_of}
-use Rattle.rs01_layers.specs.Layout.{IsShape, file_size, layers_of, parity_offset}
+use Rattle.rs01_layers.specs.Layout.{file_size, layers_of, parity_offset}
 use Rattle.rs01_layers.specs.Sectors.{block, length_of}
 use Rattle.rs01_layers.specs.declared.input.LayerInput.{LayerInput}
 use Rattle.rs01_layers.proofs.BlockLemmas.{length-block}
@@ -29,14 +29,6 @@ use Rattle.rs01_outside.specs.DeskState.{DeskState, OnlyReads}
 use Rattle.rs01_outside.specs.Files.{bytes_of}
 use Rattle.rs01_reader.specs.Courses.{CourseSeen}
 use Rattle.rs01_reader.specs.Inputs.{IsParityOf, is_gone, kept_at, kept_blocks, kept_in}
-
-pub is_shape : (ecc : Ecc) → IsShape ecc.head.sectors ecc.head.parity
-is_shape ecc = record {
-  some_sectors = ecc.head.some_sectors;
-  not_too_many = ecc.head.few_sectors;
-  enough_parity = ecc.head.least_parity;
-  not_too_much = ecc.head.most_parity;
-}
 
 -- the parity of a layer lies within the file
 parity_fits : (n r l at size len : ℕ) → l < layers_of n r → at ≡ parity_offset n r l 0 → size ≡ 2048 * r → file_size n r ≤ len → at + size ≤ len

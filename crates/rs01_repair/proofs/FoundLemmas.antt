@@ -3,19 +3,8 @@ use Rattle.std.proofs.Common.{◌≡◌, ◌≤◌, ◌+◌, ◌*◌, ℕ, List,
 use Rattle.std.specs.Prelude.{◌||◌, not}
 use Rattle.std.proofs.lemmas.Bool.{cases_lt, false≢true, lt-ltb}
 use Rattle.rs01_layers.specs.Sectors.{length_of}
-use Rattle.rs01_layers.specs.Layout.{IsShape}
 use Rattle.rs01_sums.specs.Usable.{is_usable}
 use Rattle.rs01_ecchead.specs.Erased.{Known, block_in, is_absent, is_erased}
-use Rattle.rs01_ecchead.specs.declared.opened.Ecc.{Ecc}
-
--- an opened error correction file is one of an image that can be protected
-pub is_shape : (ecc : Ecc) → IsShape ecc.head.sectors ecc.head.parity
-is_shape ecc = record {
-  some_sectors = ecc.head.some_sectors;
-  not_too_many = ecc.head.few_sectors;
-  enough_parity = ecc.head.least_parity;
-  not_too_much = ecc.head.most_parity;
-}
 
 -- a sector that isn't erased isn't absent
 pub present : (known : Known) (y : List ℕ) (s : ℕ) → is_erased known y s ≡ false → is_absent known y s ≡ false

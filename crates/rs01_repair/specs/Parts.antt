@@ -1,5 +1,5 @@
 -- What was read of layers, place by place.
-use Rattle.std.specs.Prelude.{ℕ, ◌≡◌, ◌+◌, ◌-◌, ◌*◌, ◌<◌, ◌≤◌, true, false, Bool, List, [], ◌∷◌, ◌++◌, length, map, min, slice_index_or}
+use Rattle.std.specs.Prelude.{ℕ, ◌≡◌, ◌≢◌, ◌+◌, ◌-◌, ◌*◌, ◌<◌, ◌≤◌, true, false, Bool, List, [], ◌∷◌, ◌++◌, length, map, min, slice_index_or}
 use Rattle.std.specs.List.{flat_map, range_with_len}
 use Rattle.rs01_layers.specs.Layout.{number_at}
 use Rattle.rs01_lists.specs.Bytes.{padded, part}
@@ -19,6 +19,10 @@ chunk run k = part run (2048 * k) 2048
 pub record IsEmpty (part : Part) : Type 0 where
   pub blocks : part.blocks.items ≡ []
   pub erased : part.erased.items ≡ []
+
+-- all layers but one are as before
+abbrev pub OthersStay : ℕ → (old new : List Part) → Type 0
+OthersStay at old new = (j : ℕ) (d : Part) → j ≢ at → slice_index_or new j d ≡ slice_index_or old j d
 
 -- a block and a flag came behind those that were there
 pub record AddsBlock (old new : Part) (block : List ℕ) (flag : Bool) : Type 0 where

@@ -1,5 +1,5 @@
 //! What correcting is given of layers, one after the other.
-ghost use Rattle.std.specs.Prelude.{◌≡◌, ◌≢◌, ◌+◌, ◌*◌, ◌<◌, ◌≤◌, IfNone, IfOk, IfSome, List, OnErr, OnOk, length, map, ℕ, slice_index_or};
+ghost use Rattle.std.specs.Prelude.{◌≡◌, ◌+◌, ◌*◌, ◌<◌, ◌≤◌, IfNone, IfOk, IfSome, List, OnErr, OnOk, length, map, ℕ, slice_index_or};
 ghost use Rattle.std.specs.List.{range_with_len};
 ghost use Rattle.rs01_lists.specs.Bytes.{part};
 ghost use Rattle.rs01_outside.specs.DeskState.{OnlyReads};
@@ -7,7 +7,7 @@ ghost use Rattle.rs01_ecchead.specs.Walked.{is_walk_fault};
 ghost use Rattle.rs01_repair.specs.Finding.{IsLayer, IsPlaceOf, fields_in, recorded_in};
 ghost use Rattle.rs01_repair.specs.Given.{GivesNext, HasNoNext, HoldsLayers, HoldsThese, IsInputNow, IsOfShape, IsReady, places_in};
 ghost use Rattle.rs01_repair.specs.Inputs.{parity_at, sum_at};
-ghost use Rattle.rs01_repair.specs.Parts.{IsRead, IsReadFrom};
+ghost use Rattle.rs01_repair.specs.Parts.{IsRead, IsReadFrom, OthersStay};
 
 use crate::batch::{Batch, refill};
 use crate::found::Found;
@@ -87,8 +87,7 @@ fn take_part(alloc: Global, parts: &mut Vec<Part>, at: usize) -> Part
     requires { at < length parts.old.items }
     ensures taken { result ≡ slice_index_or parts.old.items at result }
     ensures len { length parts.new.items ≡ length parts.old.items }
-    ensures others { (j : ℕ) (d : Part) → j ≢ at
-        → slice_index_or parts.new.items j d ≡ slice_index_or parts.old.items j d }
+    ensures others { OthersStay at parts.old.items parts.new.items }
 {
     mem::replace(&mut parts[at], no_part(alloc))
 }

@@ -1,7 +1,7 @@
 //! Reading a place of neighbouring layers, whose sectors are neighbours too.
 ghost use Rattle.std.specs.Prelude.{◌≡◌, ◌+◌, ◌*◌, ◌/◌, ◌%◌, ◌<◌, ◌≤◌, OnOk, is_err, length, List, ℕ};
 ghost use Rattle.rs01_outside.specs.DeskState.{InFile, OnlyReads};
-ghost use Rattle.rs01_ecchead.specs.Runs.{IsRun};
+ghost use Rattle.rs01_ecchead.specs.Runs.{ReadsRun};
 ghost use Rattle.rs01_ecchead.specs.Walked.{is_walk_fault};
 ghost use Rattle.rs01_repair.specs.Finding.{IsPlace, layers_in};
 ghost use Rattle.rs01_repair.specs.Parts.{AreRead, AreReadFrom, Covers, IsRunOf};
@@ -48,8 +48,7 @@ fn read_sectors<D: Desk>(
     requires whole { length into.old % 2048 ≡ 0 }
     requires inside { 0 < length into.old → first + length into.old / 2048 ≤ extent.now.sectors }
     ensures reads { OnlyReads (D.state desk.old) (D.state desk.new) (is_err result) }
-    ensures blocks { InFile (D.state desk.old) image.now (λ file.
-        OnOk result (IsRun file extent.now.sectors extent.now.last_bytes first into.new)) }
+    ensures blocks { ReadsRun (D.state desk.old) image.now extent.now first into.new result }
 {
     if into.is_empty() {
         return Ok(());

@@ -7,6 +7,8 @@ use Rattle.rs01_layers.specs.declared.task.LayerOut.{LayerOut}
 use Rattle.rs01_table.specs.declared.given.Given.{Given}
 use Rattle.rs01_table.specs.declared.given.Given.TheVariants.{Left}
 use Rattle.rs01_table.specs.declared.views.Gave.{Gave}
+use Rattle.rs01_table.specs.declared.seats.Worker.{Worker}
+use Rattle.rs01_table.specs.Seats.{gathered}
 use Rattle.rs01_table.specs.Views.{Slot, source, IsRight, times_given}
 
 module _ (value : LayerInput → LayerOut) where
@@ -18,6 +20,10 @@ module _ (value : LayerInput → LayerOut) where
     pub back : (j : ℕ) (g : Gave) → slice_get given j ≡ Some g → slice_get results g.ticket ≡ Some g.what
     pub left : (k : ℕ) (input : LayerInput) → slice_get posted k ≡ Some input → times_given k given ≡ 0
         → slice_get results k ≡ Some (Left input)
+
+-- the same where all workers are handed in
+abbrev pub EndedBy : {T : Type 0} → (LayerInput → LayerOut) → List LayerInput → List (Worker T) → List Given → Type 0
+EndedBy value posted workers results = Ended value posted (gathered workers) results
 
 -- the first n slots have something
 abbrev pub AllLaid : ℕ → List Slot → Type 0

@@ -25,7 +25,7 @@ ghost use Rattle.rs01_table.specs.Seats.{
   gathered,
   id_of,
 };
-ghost use Rattle.rs01_table.specs.Ending.{Ended, AllLaid, AreCollected};
+ghost use Rattle.rs01_table.specs.Ending.{EndedBy, AllLaid, AreCollected};
 
 use crate::given::Given;
 use crate::kinds::TakenOver;
@@ -50,8 +50,7 @@ impl<T: LayerTask> WindowTable<T> {
         requires mine { IsPosterOf self poster }
         requires all { length workers.items ≡ workers_of poster }
         requires none { HaveNone (id_of self) workers.items }
-        ensures { IfOk result
-            (λ all. Ended T.value (posted_by poster) (gathered workers.items) all.items) }
+        ensures { IfOk result (λ all. EndedBy T.value (posted_by poster) workers.items all.items) }
     {
         let Poster {
             mut seat,

@@ -1,38 +1,13 @@
 //! A poster and two workers, one event after the other.
-ghost use Rattle.std.specs.Prelude.{◌≡◌, IfOk, IfSome};
-ghost use Rattle.rs01_layers.specs.declared.task.LayerOut.TheVariants.{Beyond};
+ghost use Rattle.std.specs.Prelude.{◌≡◌, IfSome};
 ghost use Rattle.rs01_table.specs.Seats.{id_of, AreFree, IsFree, IsWorkerOf};
 
 use super::*;
-use rs01_layers::{Bytes, Flags, LayerInput, LayerOut, LayerTask, SumList};
+use rs01_fakes::{Numbering, numbered_layer};
+use rs01_layers::LayerOut;
 use rs01_window::PostRefusal;
 use std::alloc::{AllocError, Global};
 use std::test::Fail;
-
-// A task that tells the number of the layer.
-struct Numbering;
-
-impl LayerTask for Numbering {
-    ghost fit = { λ _. Unit {0} };
-
-    ghost value = { λ input. Beyond input.layer };
-
-    fn work(&self, _alloc: Global, input: &LayerInput) -> Result<LayerOut, AllocError> {
-        Ok(LayerOut::Beyond(input.layer))
-    }
-}
-
-// A layer of zeros with this number.
-fn layer(alloc: Global, number: u32) -> Result<LayerInput, AllocError> {
-    Ok(LayerInput {
-        layer: number,
-        parity_count: 100,
-        data_: Bytes::of(vec![in alloc; 0u8; 2048 * 155]?),
-        erased: Flags::of(vec![in alloc; false; 155]?),
-        sums: SumList::of(vec![in alloc; 0u32; 155]?),
-        parity: Bytes::of(Vec::new(alloc)),
-    })
-}
 
 // The last of some free workers.
 fn next_worker(
@@ -79,17 +54,17 @@ fn two_slots_and_two_workers(rt: HostRuntime) -> Result<(), Fail> {
     let Taken::NotYet = table.try_take(&mut first, ticket) else {
         return Err("nothing is posted yet")?;
     };
-    let Ok(0) = table.post(&mut poster, layer(alloc, 10)?) else {
+    let Ok(0) = table.post(&mut poster, numbered_layer(alloc, 10)?) else {
         return Err("the first slot is free")?;
     };
     let Taken::Got(kept) = table.try_take(&mut first, ticket) else {
         return Err("the first input is posted")?;
     };
     assert_eq!(rt; kept.layer, 10);
-    let Ok(1) = table.post(&mut poster, layer(alloc, 11)?) else {
+    let Ok(1) = table.post(&mut poster, numbered_layer(alloc, 11)?) else {
         return Err("the second slot is free")?;
     };
-    let Err(refused) = table.post(&mut poster, layer(alloc, 12)?) else {
+    let Err(refused) = table.post(&mut poster, numbered_layer(alloc, 12)?) else {
         return Err("both slots are taken")?;
     };
     assert_eq!(rt; (refused.why, refused.input.layer), (PostRefusal::Full, 12));
@@ -107,7 +82,7 @@ fn two_slots_and_two_workers(rt: HostRuntime) -> Result<(), Fail> {
     };
     table.close(&mut poster);
     table.close(&mut poster);
-    let Err(refused) = table.post(&mut poster, layer(alloc, 13)?) else {
+    let Err(refused) = table.post(&mut poster, numbered_layer(alloc, 13)?) else {
         return Err("the window is closed")?;
     };
     assert_eq!(rt;

@@ -11,7 +11,7 @@ use Rattle.rs01_fix.specs.declared.refusal.FixRefusal.{FixRefusal}
 use Rattle.rs01_fix.specs.declared.refusal.FixRefusal.TheVariants as fix
 use Rattle.rs01_demo.specs.Answer.{HasShown}
 use Rattle.rs01_demo.specs.Faults.{WorksOnTwo, reads_badly, writes_badly}
-use Rattle.rs01_demo.specs.Plan.{is_whole, outcome, report_of}
+use Rattle.rs01_demo.specs.Plan.{ecc_name, image_name, is_whole, outcome, report_of}
 use Rattle.rs01_demo.specs.Steps.{IsLeft, Stops}
 use Rattle.rs01_demo.specs.declared.demonstration.Demonstration.{Demonstration}
 use Rattle.rs01_demo.specs.declared.plan.Plan.{Plan}
@@ -23,7 +23,7 @@ use Rattle.rs01_report.specs.declared.faults.Fault.TheVariants as fault
 use Rattle.rs01_report.specs.declared.reports.DemoReport.{DemoReport}
 use Rattle.rs01_report.specs.Faults.{fault_line, status_of}
 use Rattle.rs01_report.specs.Texts.{demo_lines}
-use Rattle.rs01_top.specs.Demo.{HasDemonstrated, MayStandAfterDemo, ecc_name, image_name, work_of_plan}
+use Rattle.rs01_top.specs.Demo.{HasDemonstrated, MayStandAfterDemo, work_of_plan}
 use Rattle.rs01_top.specs.Faults.{demo_fault}
 use Rattle.rs01_top.specs.Outside.{Outside, told_by, world}
 use Rattle.rs01_top.specs.Run.{Ends, RunsAlone}

@@ -1,20 +1,13 @@
 -- The work of `demo`.
-use Rattle.std.specs.Prelude.{ℕ, ◌≡◌, false, if◌then◌else◌, List, codes, None, IsOkAnd}
+use Rattle.std.specs.Prelude.{ℕ, ◌≡◌, false, if◌then◌else◌, List, None, IsOkAnd}
 use Rattle.rs01_fix.specs.Answer.{Repaired}
 use Rattle.rs01_report.specs.Texts.{demo_lines}
 use Rattle.rs01_demo.specs.Faults.{SameButTwo}
-use Rattle.rs01_demo.specs.Plan.{is_whole, outcome, plan_of, report_of}
+use Rattle.rs01_demo.specs.Plan.{ecc_name, image_name, is_whole, outcome, plan_of, report_of}
 use Rattle.rs01_demo.specs.Steps.{IsLeft, IsUnderway}
 use Rattle.rs01_demo.specs.declared.plan.Plan.{Plan}
 use Rattle.rs01_top.specs.Outside.{Outside}
 use Rattle.rs01_top.specs.Work.{Work}
-
--- the names that it works on
-abbrev pub image_name : List ℕ
-image_name = codes "demo.iso"
-
-abbrev pub ecc_name : List ℕ
-ecc_name = codes "demo.ecc"
 
 -- 0 exactly where no sector is lost and no layer is strange
 abbrev pub shown_status : Repaired → ℕ

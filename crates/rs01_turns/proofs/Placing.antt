@@ -7,7 +7,7 @@ use Rattle.std.proofs.lemmas.List.{ext_get_or, get_or_past, get_or-drop, get_or-
 use Rattle.rs01_lists.specs.Bytes.{part}
 use Rattle.rs01_layers.specs.Sectors.{length_of}
 use Rattle.rs01_outside.specs.Files.{Files, WritesAt, bytes_of, put_at}
-use Rattle.rs01_linear.proofs.PutLemmas.{length-put_at, put_at-before, put_at-behind, put_at-inside}
+use Rattle.rs01_outside.proofs.PutLemmas.{length-put_at, put_at-before, put_at-behind, put_at-inside}
 use Rattle.rs01_turns.specs.Leads.{IsBlend}
 
 -- parts by their bytes

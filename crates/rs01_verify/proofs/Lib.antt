@@ -2,7 +2,6 @@ mod AnswerLemmas
 mod ConditionLemmas
 mod CountLemmas
 mod FullnessLemmas
-mod PieceLemmas
 mod ScanAnswers
 mod ScanLemmas
 mod SurveyLemmas

@@ -3,9 +3,9 @@ use Rattle.std.proofs.Common.{◌≡◌, ℕ, ◌+◌, ◌<◌, ◌≤◌, ◌^�
 use Rattle.std.specs.Prelude.{filter, ◌&&◌, ◌==◌, slice_index, slice_set, slice_get, Option, Some}
 use Rattle.std.specs.List.{range_with_len}
 use Rattle.std.specs.Option.{option_map}
-use Rattle.rs01_layers.specs.Layout.{IsShape, layer_of, layers_of}
+use Rattle.rs01_layers.specs.Layout.{layer_of, layers_of}
 use Rattle.rs01_layers.proofs.PlaceLemmas.{some_layer}
-use Rattle.rs01_ecchead.specs.declared.head.Head.{Head}
+use Rattle.rs01_ecchead.proofs.Shapes.{is_shape}
 use Rattle.std.proofs.lemmas.Nat.{div_below, mul-le}
 use Rattle.rs01_outside.specs.DriveView.{DriveView}
 use Rattle.rs01_rack.specs.Rack.{AllRose, RackState, views_of}
@@ -157,16 +157,8 @@ asked_none medium rack t small bare = record {
 }
 
 -- a sector of an error correction file lies in one of its layers, of which there are not many
-shape_of : (head : Head) → IsShape head.sectors head.parity
-shape_of head = record {
-  some_sectors = head.some_sectors;
-  not_too_many = head.few_sectors;
-  enough_parity = head.least_parity;
-  not_too_much = head.most_parity;
-}
-
 pub some_layers : (ecc : Ecc) → 0 < layers_of ecc.head.sectors ecc.head.parity
-some_layers ecc = some_layer ecc.head.sectors ecc.head.parity (shape_of ecc.head)
+some_layers ecc = some_layer ecc.head.sectors ecc.head.parity (is_shape ecc)
 
 pub layer_within : (ecc : Ecc) (s : ℕ) → layer_of ecc.head.sectors ecc.head.parity s < layers_of ecc.head.sectors ecc.head.parity
 layer_within ecc s = let some = some_layers ecc in omega arith
@@ -175,7 +167,7 @@ pub few_layers : (ecc : Ecc) → layers_of ecc.head.sectors ecc.head.parity < 16
 few_layers ecc =
     let n = ecc.head.sectors in
     let k = 255 - ecc.head.parity in
-    let shape = shape_of ecc.head in
+    let shape = is_shape ecc in
     let some : 1 ≤ k = omega (arith, shape.not_too_much) in
     let wide = mul-le n 1 n k (omega arith) some in
     let room : n + (254 - ecc.head.parity) < n * k + k = omega (arith, wide, shape.not_too_much) in

@@ -3,17 +3,16 @@ use Rattle.std.proofs.Common.{◌≡◌, ℕ, zero, suc, replicate, get_or, subs
 use Rattle.std.specs.Prelude.{filter, ◌&&◌, ◌==◌, not, IsTrue, Some}
 use Rattle.std.specs.List.{range_with_len}
 use Rattle.std.proofs.lemmas.Bool.{cases_eq, cases_lt, eq-eqb, ne_eqb, lt-ltb, le-ltb, lt-leb, le-leb, cond-true, cond-false}
-use Rattle.std.proofs.Math.Seq.{take-add}
 use Rattle.std.proofs.lemmas.List.FromFn.{fill_by_all}
 use Rattle.md5.specs.Md5.{Holds}
 use Rattle.rs01_layers.specs.Layout.{layer_of, layers_of}
 use Rattle.rs01_layers.specs.Sectors.{length_of}
 use Rattle.rs01_ecchead.specs.Opened.{Opened}
-use Rattle.rs01_lists.specs.Bytes.{part}
 use Rattle.rs01_ecchead.specs.Erased.{Known, block_in, image_len, is_absent, is_altered, is_erased, is_missing, known_by}
 use Rattle.rs01_ecchead.specs.Condition.{condition_of, judged}
 use Rattle.rs01_ecchead.specs.Shown.{IsSector, Shown, shown_in}
 use Rattle.rs01_ecchead.proofs.ConditionLemmas.{judged_is}
+use Rattle.rs01_ecchead.proofs.OwnBytes.{bytes_more, bytes_none, front_of_block, reaches}
 use Rattle.rs01_ecchead.specs.declared.condition.Condition.{Condition}
 use Rattle.rs01_report.specs.declared.reports.Mark.{Mark}
 use Rattle.rs01_report.specs.declared.reports.Mark.TheVariants.{Absent}
@@ -22,7 +21,6 @@ use Rattle.rs01_verify.specs.Report.{fingerprint_mark, image_mark, mark_of}
 use Rattle.rs01_verify.specs.Surveyed.{IsEmpty, Surveyed, erased_below}
 use Rattle.rs01_verify.specs.declared.survey.Survey.{Survey}
 use Rattle.rs01_verify.proofs.ConditionLemmas.{missing_part_is, altered_part_is, counts_after_is}
-use Rattle.rs01_verify.proofs.PieceLemmas.{front_of_block}
 use Rattle.rs01_verify.proofs.CountLemmas.{filter_range_more, count_range_more, raised}
 
 pub missing_more : (known : Known) (y : List ℕ) (s : ℕ) (old new : List ℕ) (state : Condition) → state ≡ condition_of known y s
@@ -43,20 +41,6 @@ counts_more c y s layers old new state is within held put =
     raised (is_erased (known_by c) y s) l layers (erased_below c y s) old new within held
     (put ∙ ap (λ state. counts_after state l old) is ∙ counts_after_is (known_by c) y s l old)
     ∙ (λ i. map (λ k. sym (count_range_more (λ t. is_erased (known_by c) y t && (layer_of c.fields.sectors c.fields.parity t == k)) s) i) (range_with_len 0 layers))
-
--- the bytes of one more sector
-pub bytes_more : (y : List ℕ) (s n last : ℕ) → s < n → last ≤ 2048 → 2048 * (n - 1) + last ≤ length y
-    → take (min (2048 * s) (2048 * (n - 1) + last)) y ++ part y (2048 * s) (length_of n last s) ≡ take (min (2048 * (s + 1)) (2048 * (n - 1) + last)) y
-bytes_more y s n last below fits long =
-    let at : min (2048 * s) (2048 * (n - 1) + last) ≡ 2048 * s = omega arith in
-    let to : 2048 * s + length_of n last s ≡ min (2048 * (s + 1)) (2048 * (n - 1) + last) =
-    ⊎_elim
-    (λ e. ap (λ k. 2048 * s + k) (cond-true (eqb (s + 1) n) last 2048 (eq-eqb (s + 1) n e)) ∙ omega arith)
-    (λ ne. ap (λ k. 2048 * s + k) (cond-false (eqb (s + 1) n) last 2048 (ne_eqb (s + 1) n ne)) ∙ omega arith)
-    (cases_eq (s + 1) n) in
-    ap (λ k. take k y ++ part y (2048 * s) (length_of n last s)) at
-    ∙ sym (take-add (2048 * s) (length_of n last s) y)
-    ∙ ap (λ k. take k y) to
 
 -- the mark of the fingerprint, where its sector is the next one
 mark_here : (c : Opened) (y : List ℕ) (s : ℕ) (there : Bool) → s ≡ c.fields.mark_sector → s < c.fields.sectors → is_absent (known_by c) y s ≡ not there
@@ -114,14 +98,6 @@ absent_is end len =
     (λ l. le-ltb len end l ∙ sym (ap not (le-leb end len l)))
     (cases_lt len end)
 
--- where the image is whole, each of its sectors is there
-pub reaches : (s n last len : ℕ) → s < n → last ≤ 2048 → 2048 * (n - 1) + last ≤ len → 2048 * s + length_of n last s ≤ len
-reaches s n last len below fits long =
-    ⊎_elim
-    (λ e. let l : length_of n last s ≡ last = cond-true (eqb (s + 1) n) last 2048 (eq-eqb (s + 1) n e) in omega (arith, l))
-    (λ ne. let l : length_of n last s ≡ 2048 = cond-false (eqb (s + 1) n) last 2048 (ne_eqb (s + 1) n ne) in omega (arith, l))
-    (cases_eq (s + 1) n)
-
 -- before the first sector
 pub length-zeros : (n : ℕ) → length (replicate {A = ℕ} n 0) ≡ n
 length-zeros zero = refl
@@ -134,9 +110,6 @@ zeros_at (suc n) (suc k) = zeros_at n k
 
 pub counts_none : (c : Opened) (y : List ℕ) (layers : ℕ) → replicate layers 0 ≡ map (erased_below c y 0) (range_with_len 0 layers)
 counts_none c y layers = fill_by_all (erased_below c y 0) (replicate layers 0) layers 0 (length-zeros layers) (λ k l. zeros_at layers k)
-
-pub bytes_none : (y : List ℕ) (len : ℕ) → [] ≡ take (min (2048 * 0) len) y
-bytes_none y len = ap (λ k. take k y) (let e : 0 ≡ min (2048 * 0) len = omega arith in e)
 
 pub mark_none : (mark : ℕ) (whole : Mark) → Absent ≡ cond (ltb mark 0) whole Absent
 mark_none mark whole = sym (cond-false (ltb mark 0) whole Absent (le-ltb mark 0 (omega arith)))

@@ -1,5 +1,5 @@
 -- What is kept while the sectors of a medium are asked for in rising order.
-use Rattle.std.specs.Prelude.{ℕ, ◌≡◌, ◌≤◌, ◌==◌, ◌&&◌, List, [], ◌++◌, count_by, filter, length, map, replicate, Result, Ok, Err}
+use Rattle.std.specs.Prelude.{ℕ, ◌≡◌, ◌≤◌, ◌==◌, ◌&&◌, List, [], ◌++◌, count_by, filter, length, map, replicate, Option, Result, Ok, Err}
 use Rattle.std.specs.Option.{ForSome}
 use Rattle.std.specs.List.{range_with_len}
 use Rattle.std.specs.declared.alloc.AllocError.{AllocError}
@@ -11,11 +11,12 @@ use Rattle.rs01_ecchead.specs.declared.condition.Condition.{Condition}
 use Rattle.rs01_ecchead.specs.declared.condition.Condition.TheVariants as condition
 use Rattle.rs01_ecchead.specs.declared.opened.Ecc.{Ecc}
 use Rattle.rs01_linear.specs.Lasting.{AllRoseBy, RackLasts}
-use Rattle.rs01_linear.specs.Medium.{known_of}
+use Rattle.rs01_linear.specs.Medium.{Found, IsMedium, known_of}
 use Rattle.rs01_linear.specs.declared.asking.Asked.{Asked}
 use Rattle.rs01_linear.specs.declared.asking.Asked.TheVariants as asked
 use Rattle.rs01_linear.specs.declared.medium.Medium.{Medium}
-use Rattle.rs01_verify.specs.Scan.{asked_at, is_altered, is_lost, is_unreadable, scan_to}
+use Rattle.rs01_report.specs.declared.reports.ScanReport.{ScanReport}
+use Rattle.rs01_verify.specs.Scan.{asked_at, is_altered, is_lost, is_unreadable, scan_report, scan_to}
 use Rattle.rs01_verify.specs.Tallied.{IsCounted, altered_part, counts_after, missing_part}
 use Rattle.rs01_verify.specs.declared.tally.Tally.{Tally}
 
@@ -53,6 +54,12 @@ pub record IsKept (medium : Medium) (views : List DriveView) (n : ℕ) (now : Li
   pub altered : tally.altered.items ≡ filter (λ s. is_altered (asked_at (known_of medium) views s)) (range_with_len 0 n)
   pub counts : ForSome medium.ecc (λ ecc. tally.counts.items
       ≡ map (lost_below (known_of medium) views ecc n) (range_with_len 0 (layers_of ecc.head.sectors ecc.head.parity)))
+
+-- a report is that of any medium that this one was opened as, and of any drives, once all sectors were asked for
+abbrev pub TellsScan : Medium → Tally → ScanReport → Type 0
+TellsScan medium tally report =
+    (file : Option (Option (List ℕ))) (found : Found) (views now : List DriveView) → IsMedium file medium found
+    → IsKept medium views medium.extent.sectors now tally → report ≡ scan_report found views
 
 -- the first n sectors were asked for, whatever the drives tell
 pub record HasAsked (medium : Medium) (n : ℕ) (old now : RackState) (tally : Tally) : Type 0 where

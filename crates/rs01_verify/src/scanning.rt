@@ -1,16 +1,14 @@
 //! Scanning a medium: each sector is asked for once.
-ghost use Rattle.std.specs.Prelude.{◌≡◌, ◌+◌, ◌++◌, ◌<◌, ◌≤◌, ℕ, IfErr, IfOk, IsTrue, List, OnOk, length};
+ghost use Rattle.std.specs.Prelude.{◌≡◌, ◌+◌, ◌<◌, ◌≤◌, IfErr, IfOk, IsTrue, OnOk, length};
 ghost use Rattle.std.specs.Option.{ForSome, option_map};
 ghost use Rattle.rs01_layers.specs.Layout.{layers_of};
 ghost use Rattle.rs01_outside.specs.DeskState.{OnlyReads};
-ghost use Rattle.rs01_outside.specs.DriveView.{DriveView};
 ghost use Rattle.rs01_rack.specs.Rack.{AllTell, views_of};
-ghost use Rattle.rs01_linear.specs.Medium.{Found, IsMedium};
 ghost use Rattle.rs01_linear.specs.Racks.{seen_by};
 ghost use Rattle.rs01_linear.specs.Refusal.{IsOfReading, is_read_fault};
 ghost use Rattle.rs01_verify.specs.Fullness.{fullest_of};
-ghost use Rattle.rs01_verify.specs.Scan.{IsScanOf, Scans, scan_report};
-ghost use Rattle.rs01_verify.specs.Scanned.{CountedFor, EndsAsking, IsBare, IsKept, Keeps, condition_from};
+ghost use Rattle.rs01_verify.specs.Scan.{IsScanOf, Scans};
+ghost use Rattle.rs01_verify.specs.Scanned.{CountedFor, EndsAsking, IsBare, Keeps, TellsScan, condition_from};
 
 use crate::fullest::fullest;
 use crate::tally::Tally;
@@ -86,10 +84,7 @@ fn fullness(medium: &Medium, counts: &[u32]) -> Option<Fullest>
 fn report(medium: &Medium, tally: Tally) -> ScanReport
     requires { CountedFor medium.now medium.now.extent.sectors tally }
     ensures unreadable { result.unreadable ≡ tally.missing.items }
-    ensures told { (file : _) (found : Found) (views now : List DriveView)
-        → IsMedium file medium.now found
-        → IsKept medium.now views medium.now.extent.sectors now tally
-        → result ≡ scan_report found views }
+    ensures told { TellsScan medium.now tally result }
 {
     let Tally {
         missing,

@@ -1,37 +1,13 @@
 //! Lists of events, and what is answered.
-ghost use Rattle.std.specs.Prelude.{◌≡◌, IfOk};
+ghost use Rattle.std.specs.Prelude.{◌≡◌};
 ghost use Rattle.rs01_layers.specs.declared.task.LayerOut.TheVariants.{Beyond};
 ghost use Rattle.rs01_window.specs.Machine.{MayGive};
 
 use super::*;
-use rs01_layers::{Bytes, Flags, LayerInput, LayerOut, LayerTask, SumList};
+use rs01_fakes::{Numbering, numbered_layer};
+use rs01_layers::LayerOut;
 use std::alloc::{AllocError, Global};
 use std::test::Fail;
-
-// A task that tells the number of the layer.
-struct Numbering;
-
-impl LayerTask for Numbering {
-    ghost fit = { λ _. Unit {0} };
-
-    ghost value = { λ input. Beyond input.layer };
-
-    fn work(&self, _alloc: Global, input: &LayerInput) -> Result<LayerOut, AllocError> {
-        Ok(LayerOut::Beyond(input.layer))
-    }
-}
-
-// A layer of zeros with this number.
-fn layer(alloc: Global, number: u32) -> Result<LayerInput, AllocError> {
-    Ok(LayerInput {
-        layer: number,
-        parity_count: 100,
-        data_: Bytes::of(vec![in alloc; 0u8; 2048 * 155]?),
-        erased: Flags::of(vec![in alloc; false; 155]?),
-        sums: SumList::of(vec![in alloc; 0u32; 155]?),
-        parity: Bytes::of(Vec::new(alloc)),
-    })
-}
 
 // An event: a worker has the number, and a layer that is posted.
 #[derive(Clone, Copy)]
@@ -61,7 +37,7 @@ fn step(
     number: u32,
 ) -> Result<Result<Seen, StepRefused>, AllocError> {
     match row {
-        Row::Post => Ok(window.step(Event::Post(layer(alloc, number)?))),
+        Row::Post => Ok(window.step(Event::Post(numbered_layer(alloc, number)?))),
         Row::Close => Ok(window.step(Event::Close)),
         Row::Draw => Ok(window.step(Event::Draw(number))),
         Row::Take => Ok(window.step(Event::Take(number))),
@@ -166,7 +142,7 @@ fn a_list_of_events(rt: HostRuntime) -> Result<(), Fail> {
     let mut window = Window::<Numbering>::new(alloc, 1, 1)?;
     let mut events = Vec::new(alloc);
     events.push(Event::Draw(0))?;
-    events.push(Event::Post(layer(alloc, 7)?))?;
+    events.push(Event::Post(numbered_layer(alloc, 7)?))?;
     events.push(Event::Take(0))?;
     let answers = replay(alloc, &mut window, events)?;
     let mut all = String::new(alloc);

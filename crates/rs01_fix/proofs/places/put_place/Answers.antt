@@ -7,7 +7,7 @@ use Rattle.rs01_outside.specs.declared.Failed.{Failed}
 use Rattle.rs01_repair.specs.Finding.{IsLayer, Sources, answer_to, said}
 use Rattle.rs01_repair.specs.Restored.{restored_at}
 use Rattle.rs01_repair.specs.declared.found.Found.{Found}
-use Rattle.rs01_repair.proofs.FoundLemmas.{is_shape}
+use Rattle.rs01_ecchead.proofs.Shapes.{is_shape}
 use Rattle.rs01_fix.specs.Places.{PutsSector}
 use Rattle.rs01_fix.specs.Repair.{mended_block}
 use Rattle.rs01_fix.specs.Steps.{IsBefore, IsEitherWay, Leads}

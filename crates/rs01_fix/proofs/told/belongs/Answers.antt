@@ -2,7 +2,7 @@ use Rattle.std.proofs.Common.{◌≡◌, ◌∙◌, ◌<◌, arith, length, ap, 
 use Rattle.std.specs.Prelude.{not}
 use Rattle.rs01_layers.specs.Layout.{layer_of}
 use Rattle.rs01_layers.proofs.PlaceLemmas.{each_sector_has_a_place}
-use Rattle.rs01_repair.proofs.FoundLemmas.{is_shape}
+use Rattle.rs01_ecchead.proofs.Shapes.{is_shape}
 use Rattle.rs01_fix.proofs.ToldLemmas.{any_default, belongs_lost, belongs_not, belongs_restored}
 use Rattle.rs01_fix.proofs.told.belongs.Goals as goal
 

@@ -1,12 +1,13 @@
 use Rattle.std.proofs.Common.{◌≡◌, ◌∙◌, ◌<◌, ℕ, ap, arith, cond}
 use Rattle.std.specs.Prelude.{Some, ◌&&◌, ◌==◌}
-use Rattle.rs01_layers.specs.Layout.{IsShape, layer_of, layers_of}
+use Rattle.rs01_layers.specs.Layout.{layer_of, layers_of}
 use Rattle.rs01_layers.proofs.PlaceLemmas.{some_layer}
 use Rattle.rs01_sums.specs.Checksums.{Checksums}
 use Rattle.rs01_ecchead.specs.Condition.{judged}
 use Rattle.rs01_ecchead.specs.declared.head.Head.{Head}
 use Rattle.rs01_ecchead.specs.Erased.{known_of}
 use Rattle.rs01_ecchead.specs.Opened.{opened_as}
+use Rattle.rs01_ecchead.proofs.Shapes.{is_shape_of_head}
 use Rattle.rs01_verify.specs.Report.{mark_of}
 use Rattle.rs01_verify.specs.Tallied.{counts_after}
 use Rattle.rs01_verify.proofs.SurveyLemmas.{seen, surveyed_more}
@@ -15,9 +16,7 @@ use Rattle.rs01_verify.proofs.survey.SurveyorVisitor.sector.Goals as goal
 -- a sector's layer is one of the layers
 within : (head : Head) (s : ℕ) → layer_of head.sectors head.parity s < layers_of head.sectors head.parity
 within head s =
-    let shape : IsShape head.sectors head.parity =
-    record { some_sectors = head.some_sectors; not_too_many = head.few_sectors; enough_parity = head.least_parity; not_too_much = head.most_parity } in
-    let some = some_layer head.sectors head.parity shape in
+    let some = some_layer head.sectors head.parity (is_shape_of_head head) in
     omega arith
 
 pub returns-clause-keeps : goal.returns-clause-keeps

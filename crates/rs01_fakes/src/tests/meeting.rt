@@ -1,8 +1,8 @@
 //! Two workers at a gate, a drive that waits for one, and a task that refuses once.
-use crate::{MeetDrive, MeetGate, OnceRefusing, ScriptDrive};
-use rs01_layers::{Bytes, Flags, LayerInput, LayerOut, LayerTask, SumList};
+use crate::{MeetDrive, MeetGate, Numbering, OnceRefusing, ScriptDrive, numbered_layer};
+use rs01_layers::{LayerInput, LayerTask};
 use rs01_outside::{Drive, Gate};
-use std::alloc::{AllocError, Global};
+use std::alloc::Global;
 use std::sync::Arc;
 use std::test::Fail;
 use std::thread;
@@ -45,22 +45,6 @@ fn one_worker_meets_nobody(rt: HostRuntime) -> Result<(), Fail> {
     Ok(())
 }
 
-// A task that tells the number of the layer.
-#[derive(Drop)]
-struct Numbering;
-
-impl LayerTask for Numbering {
-    ghost use Rattle.rs01_layers.specs.declared.task.LayerOut.TheVariants.{Beyond};
-
-    ghost fit = { λ _. Unit {0} };
-
-    ghost value = { λ input. Beyond input.layer };
-
-    fn work(&self, _alloc: Global, input: &LayerInput) -> Result<LayerOut, AllocError> {
-        Ok(LayerOut::Beyond(input.layer))
-    }
-}
-
 // Whether the task works on a layer with this number.
 fn works<T: LayerTask>(task: &T, alloc: Global, input: &LayerInput) -> bool
     requires { T.fit input.now }
@@ -73,14 +57,7 @@ fn a_task_refuses_once(rt: HostRuntime) -> Result<(), Fail> {
     let alloc = rt.alloc();
     let task = OnceRefusing::new(Numbering, 7);
     for (layer, wanted) in [(6u32, true), (7, false), (7, true), (6, true), (7, true)] {
-        let input = LayerInput {
-            layer,
-            parity_count: 100,
-            data_: Bytes::of(vec![in alloc; 0u8; 2048 * 155]?),
-            erased: Flags::of(vec![in alloc; false; 155]?),
-            sums: SumList::of(vec![in alloc; 0u32; 155]?),
-            parity: Bytes::of(Vec::new(alloc)),
-        };
+        let input = numbered_layer(alloc, layer)?;
         assert!(rt; works(&task, alloc, &input) == wanted);
     }
     Ok(())
