@@ -1,6 +1,6 @@
 //! A drive in memory.
 ghost use Rattle.std.specs.Prelude.{◌≡◌, ◌+◌, ◌*◌, ◌<◌, ◌≤◌, IfOk, IsNone, IsTrue, is_err, not, slice_get};
-ghost use Rattle.rs01_outside.specs.DriveView.{Counts, ask};
+ghost use Rattle.rs01_outside.specs.DriveView.{Counts, answer_at, ask};
 
 use crate::marks;
 use crate::scripts::{self, Answer, Pending, Script};
@@ -112,7 +112,7 @@ impl ScriptDrive {
 }
 
 impl Drive for ScriptDrive {
-    ghost use Rattle.rs01_fakes.specs.ScriptDrive.{Answered, Records, TellsGiven, drive_state, view_of};
+    ghost use Rattle.rs01_fakes.specs.ScriptDrive.{Answered, Records, TellsGiven, drive_state, tells_of, view_of};
 
     ghost state = { drive_state };
 

@@ -52,6 +52,33 @@ fn demonstrations(rt: HostRuntime) -> Result<(), Fail> {
     Ok(())
 }
 
+// 81 layers, which are two windows, with eight and then with up to nine sectors gone in each.
+#[test]
+fn two_windows(rt: HostRuntime) -> Result<(), Fail> {
+    let mut desk = MemoryDesk::new(rt.alloc());
+    let begins =
+        "image md5 1db2d10574ce1a6d7e26e64b81110a14\nbody md5 1748a9abbd0318b5d019ec87544f890b\n";
+    for (lost, status, restored, left, what) in [
+        (649u32, 1u8, 640u32, 9u32, "isn't"),
+        (648, 0, 648, 0, "is"),
+    ] {
+        let line = format!(in rt.alloc(); "demo 7 20000 8 {lost}")?;
+        let ends = format!(in rt.alloc(); "restored {restored}\nlost {left}\nimage {what} the original\n")?;
+        let want = format!(in rt.alloc(); "{line}\n{begins}{ends}")?;
+        let ran = puts(rt.alloc(), &line, &mut desk, &want)?;
+        assert_eq!(rt; ran, (status, true), "{line}");
+    }
+    let mut original = Vec::new(rt.alloc());
+    original.extend_from_slice(desk.file("demo.iso").unwrap_or(&[]))?;
+    assert!(rt; desk.cut("demo.iso", 39_936_000).is_ok());
+    let want =
+        "fixed demo.iso\nrestored 500: 19500-19999\nlost 0: none\nstrange layers 0\nsurplus bytes 0\n";
+    let ran = puts(rt.alloc(), "fix demo.iso demo.ecc", &mut desk, want)?;
+    assert_eq!(rt; ran, (0, true), "cut to 19500 sectors");
+    assert!(rt; desk.file("demo.iso") == Some(original.as_slice()), "the image comes back");
+    Ok(())
+}
+
 #[test]
 fn interrupted_demonstrations(rt: HostRuntime) -> Result<(), Fail> {
     let line = "demo 3 9 8 2";
