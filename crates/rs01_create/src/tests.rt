@@ -39,6 +39,21 @@ fn made(desk: &MemoryDesk) -> &[u8] {
     desk.file("disc.ecc").unwrap_or(&[])
 }
 
+// How long the file is that was made, where it is there.
+fn made_len(desk: &MemoryDesk) -> Option<usize> {
+    desk.file("disc.ecc").map(|file| file.len())
+}
+
+// Whether one fault of the kind that is told was counted, and none of the other.
+fn counts_one<D: Desk>(desk: &D, told: CreateRefusal) -> bool {
+    let counts = (desk.read_faults(), desk.write_faults());
+    if told == CreateRefusal::ReadFault {
+        counts == (1, 0)
+    } else {
+        counts == (0, 1)
+    }
+}
+
 // The bytes between two places, or none.
 fn between(bytes: &[u8], from: usize, to: usize) -> &[u8] {
     bytes.get(from..to).unwrap_or(&[])
@@ -331,20 +346,8 @@ fn each_call_failing_in_turn(rt: HostRuntime) -> Result<(), Fail> {
             desk.fail_call(call);
             desk.keep_prefix(kept);
             assert_eq!(rt; create(rt.alloc(), &mut desk), Err(want), "call {call}");
-            let reads = if want == CreateRefusal::ReadFault {
-                1
-            } else {
-                0
-            };
-            assert_eq!(rt;
-                (desk.read_faults(), desk.write_faults()),
-                (reads, 1 - reads)
-            );
-            assert_eq!(rt;
-                desk.file("disc.ecc").map(|file| file.len()),
-                left,
-                "call {call}"
-            );
+            assert!(rt; counts_one(&desk, want), "call {call}");
+            assert_eq!(rt; made_len(&desk), left, "call {call}");
             assert!(rt; desk.file("disc.iso") == Some(b"abc".as_slice()));
             assert!(rt;
                 open_ecc(rt.alloc(), &mut desk, "disc.ecc").is_err(),

@@ -1,4 +1,5 @@
 //! Images of more than one window.
+use super::{counts_one, desk_with, made_len};
 use crate::{CreateRefusal, create_one};
 use rs01_ecchead::open_ecc;
 use rs01_encode::EncodeTask;
@@ -68,12 +69,6 @@ fn scrambled(alloc: Global, len: usize) -> Result<Vec<u8>, AllocError> {
         *byte = (state >> 24) as u8;
     }
     Ok(image)
-}
-
-fn desk_with(alloc: Global, image: &[u8]) -> Result<MemoryDesk, AllocError> {
-    let mut desk = MemoryDesk::new(alloc);
-    desk.put_file(alloc, "disc.iso", image)?;
-    Ok(desk)
 }
 
 // The blocks of a layer of an image of whole sectors, with 100 parity bytes a codeword.
@@ -198,20 +193,8 @@ fn calls_failing_over_two_windows(rt: HostRuntime) -> Result<(), Fail> {
         desk.fail_call(call);
         let refused = create_one(rt.alloc(), &mut desk, "disc.iso", "disc.ecc", 100).err();
         assert!(rt; refused == Some(want), "call {call}");
-        let reads = if want == CreateRefusal::ReadFault {
-            1
-        } else {
-            0
-        };
-        assert_eq!(rt;
-            (desk.read_faults(), desk.write_faults()),
-            (reads, 1 - reads)
-        );
-        assert_eq!(rt;
-            desk.file("disc.ecc").map(|file| file.len()),
-            left,
-            "call {call}"
-        );
+        assert!(rt; counts_one(&desk, want), "call {call}");
+        assert_eq!(rt; made_len(&desk), left, "call {call}");
     }
     let mut desk = desk_with(rt.alloc(), &image)?;
     desk.fail_call(468);
