@@ -1,8 +1,9 @@
 //! The real outside: files, drives and the standard output of the system.
 //!
 //! These tell nothing of contents. What is proved of them is that they are safe whatever the system
-//! does, and that a call fails exactly where its count of faults rose by one: each error that reaches
-//! a count is counted there, so a call that went on after it couldn't succeed.
+//! does, and that a call fails exactly where its count of faults rose by one or stood at its last
+//! value: each error that reaches a count is counted there, so a call that went on after it couldn't
+//! succeed.
 #![tactic(auto)]
 
 mod fault_count;

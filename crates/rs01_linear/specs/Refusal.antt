@@ -2,6 +2,7 @@
 use Rattle.std.specs.Prelude.{◌≡◌, Bool, false, true, IfErr, IsTrue, List, Result, Ok, Err, ℕ}
 use Rattle.rs01_outside.specs.DeskState.{DeskState, WorksOn}
 use Rattle.rs01_ecchead.specs.Opened.{IsOfFile}
+use Rattle.rs01_ecchead.specs.Opening.{TellsTwo}
 use Rattle.rs01_ecchead.specs.declared.opened.EccRefusal.{EccRefusal}
 use Rattle.rs01_ecchead.specs.declared.opened.EccRefusal.TheVariants as ecc
 use Rattle.rs01_ecchead.specs.declared.walk.WalkFault.{WalkFault}
@@ -57,9 +58,14 @@ IsOfMedium ReadFault = ⊥
 IsOfMedium WriteFault = ⊥
 IsOfMedium OutOfMemory = ⊥
 
+-- a refusal of the error correction file as it is told: it is no fault or want of memory, and where it tells two values
+-- they differ
+abbrev pub IsToldOfFile : EccRefusal → Type 0
+IsToldOfFile why = IsOfFile why × TellsTwo why
+
 -- a refusal that comes from opening an error correction file: never a fault or want of memory inside the file's refusal
 abbrev pub IsOfOpening : ReadRefusal → Type 0
-IsOfOpening (Ecc why) = IsOfFile why
+IsOfOpening (Ecc why) = IsToldOfFile why
 IsOfOpening (Rack why) = ⊥
 IsOfOpening (DriveSize n) = ⊥
 IsOfOpening ReadFault = Unit {0}
@@ -77,7 +83,7 @@ IsOfWork OutOfMemory = Unit {0}
 
 -- a refusal of work that only reads files: never a fault or want of memory inside the file's refusal, nor a fault of writing
 abbrev pub IsOfReading : ReadRefusal → Type 0
-IsOfReading (Ecc why) = IsOfFile why
+IsOfReading (Ecc why) = IsToldOfFile why
 IsOfReading (Rack why) = Unit {0}
 IsOfReading (DriveSize n) = Unit {0}
 IsOfReading ReadFault = Unit {0}
@@ -104,7 +110,7 @@ pub record Writes {T : Type 0} (name : List ℕ) (old new : DeskState) (result :
 
 -- a refusal that tells a fault or want of memory as such, and never inside the file's refusal
 abbrev pub TellsFaults : ReadRefusal → Type 0
-TellsFaults (Ecc why) = IsOfFile why
+TellsFaults (Ecc why) = IsToldOfFile why
 TellsFaults (Rack why) = Unit {0}
 TellsFaults (DriveSize n) = Unit {0}
 TellsFaults ReadFault = Unit {0}

@@ -74,7 +74,8 @@ fn read_prepared<D: Desk>(
 ///
 /// The refusals of the file and of the drives come first, in this order, and nothing has changed then. After a fault or
 /// want of memory the drives were asked for the first sectors alone, and the image file is as it was, or its first bytes
-/// are those of the marked file, or of the one that the whole reading leaves, and the others are those before.
+/// are those of the marked file and the others those before, or its first bytes are those of the one that the whole
+/// reading leaves and the others those of the marked file.
 ///
 /// Whatever the drives give and however it ends, the image file isn't shorter than before, and the sectors that it had
 /// good and the bytes past the image are the same. Each sector that is told to be unreadable raised the count of faults of
