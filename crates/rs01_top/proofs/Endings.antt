@@ -19,7 +19,7 @@ use Rattle.rs01_linear.proofs.LastingLemmas.{same_lasts}
 use Rattle.rs01_rack.specs.Rack.{RackState}
 use Rattle.rs01_top.specs.Outside.{Outside, World, outside_of, world}
 use Rattle.rs01_top.specs.Work.{Answers, AnswersBy, Work, no_work}
-use Rattle.rs01_top.specs.Run.{Begins, Ends, IsKnown, IsRun, IsSettled, NothingRose, RackLasts, RaisedCount, Tells, ended}
+use Rattle.rs01_top.specs.Run.{Begins, Ends, IsKnown, IsRun, IsSettled, NothingRose, RackLasts, HasDriveCause, Tells, ended}
 
 -- how the last text of a run was put, which was to end with a status that is not 6 or 7
 record IsTold (line : List ℕ) (wanted : ℕ) (out out' : SinkState) (status : ℕ) : Type 0 where
@@ -133,7 +133,7 @@ record RefusingDrives (work : Work) (old new : RackState) (line : List ℕ) : Ty
   used : IsTrue work.uses_drives
   why : Fault
   number : status_of why ≡ 5
-  raised : RaisedCount why old new
+  drives_are : HasDriveCause why old new
   line_is : line ≡ fault_line why
 
 -- what became of the drives
@@ -163,9 +163,10 @@ settled : (work : Work) (old new : World) (line : List ℕ) (wanted status : ℕ
     → ((why : Fault) → work.refusal (outside_of old) ≡ Some why → (status_of why ≡ 2) ⊎ IsKnown work old new → status_of why ≡ wanted)
     → ((wanted ≡ 2) ⊎ (IsKnown work old new × ((wanted ≡ 3) ⊎ (wanted ≡ 5))) → Refusing work (outside_of old) line wanted)
     → (wanted ≡ 5 → RefusingDrives work old.rack new.rack line)
+    → ((why : Fault) → work.refusal (outside_of old) ≡ Some why → status_of why ≡ 2 → line ≡ fault_line why)
     → IsTold line wanted old.out new.out status
     → IsRun work old new status
-settled work old new line wanted status w rack works answer left refusing only drives put =
+settled work old new line wanted status w rack works answer left refusing only drives of_words put =
     let rest : NothingRose old.desk new.desk = (works.read_kept refl, works.write_kept refl) in
     record {
       lasts = record {
@@ -180,6 +181,7 @@ settled work old new line wanted status w rack works answer left refusing only d
           let same : status ≡ wanted = same_settled status wanted h put.range in
           (line, subst (Answers work (outside_of old) (outside_of new) line) (sym same) (answer d), put.whole same);
       unput = λ d six noreads nowrites. (line, wanted, answer d, put.begun);
+      unput_line = λ why e two six. subst (λ (xs : List ℕ). Begins old.out new.out xs) (of_words why e two) put.begun;
       stands = left;
       range = ⊎_elim (λ e. inl (subst IsSettled (sym e) w)) (λ e. inr (inr e)) put.range;
       only_refused = λ h.
@@ -203,7 +205,7 @@ settled work old new line wanted status w rack works answer left refusing only d
               used = it.used;
               why = it.why;
               number = it.number;
-              raised = it.raised;
+              drives_are = it.drives_are;
               line = subst (λ (xs : List ℕ). Tells old.out new.out xs) it.line_is (put.whole same);
             };
         output = put.cause;
@@ -236,6 +238,7 @@ done_by work old new line wanted status words range rack works none did left end
     (λ p. ⊎_elim (λ three. low wanted 3 range three (omega arith)) (λ five. low wanted 5 range five (omega arith)) p.1)
     h))
     (λ five. absurd (low wanted 5 range five (omega arith)))
+    (λ why e two. absurd (words (outside_of old) why e two))
     (told line wanted old.out new.out status (λ e. low wanted 6 range e (omega arith)) (λ e. low wanted 7 range e (omega arith)) ends)
 
 -- on one of them
@@ -274,6 +277,7 @@ refused_for work old new why status words number rack works first same left driv
     (λ p. record { why = why; first = first p.0; number = refl; line_is = refl })
     h)
     drives
+    (λ other e two. absurd (words (outside_of old) other e two))
     (told (fault_line why) (status_of why) old.out new.out status
     (λ e. three_or_five (status_of why) 6 number e (omega arith)) (λ e. three_or_five (status_of why) 7 number e (omega arith)) ends)
 
@@ -301,7 +305,7 @@ refused work name old new why status words three rack works first same left ends
 
 -- the drives refuse it
 pub refused_by_drives : (work : Work) (name : List ℕ) (old new : World) (why : Fault) (status : ℕ)
-    → NotOfWords work → IsTrue work.uses_drives → status_of why ≡ 5 → RaisedCount why old.rack new.rack
+    → NotOfWords work → IsTrue work.uses_drives → status_of why ≡ 5 → HasDriveCause why old.rack new.rack
     → OfRack work old.rack new.rack → WorksOn name old.desk new.desk false false
     → (IsKnown work old new → work.refusal (outside_of old) ≡ Some why)
     → (IsKnown work old new → SameOutside (outside_of old) (outside_of new))
@@ -310,7 +314,7 @@ pub refused_by_drives : (work : Work) (name : List ℕ) (old new : World) (why :
     → IsRun work old new status
 refused_by_drives work name old new why status words used five raised rack works first same left ends =
     refused_for work old new why status words (inr five) rack (counts name old.desk new.desk false false works) first same left
-    (λ e. record { used = used; why = why; number = five; raised = raised; line_is = refl }) ends
+    (λ e. record { used = used; why = why; number = five; drives_are = raised; line_is = refl }) ends
 
 -- the words refuse it, and nothing is begun
 pub not_begun : (why : Fault) (desk : DeskState) (rack : RackState) (out out' : SinkState) (status : ℕ) → status_of why ≡ 2
@@ -324,6 +328,7 @@ not_begun why desk rack out out' status two ends =
     (λ other e known. ap status_of (sym (some_same why other e)))
     (λ h. record { why = why; first = refl; number = refl; line_is = refl })
     (λ five. absurd (other_than (status_of why) 2 5 two (λ e. omega arith) five))
+    (λ other e two. ap fault_line (some_same why other e))
     (told (fault_line why) (status_of why) out out' status
     (other_than (status_of why) 2 6 two (λ e. omega arith)) (other_than (status_of why) 2 7 two (λ e. omega arith)) ends)
 
@@ -341,6 +346,7 @@ faulted work old new line status words rack tells reads writes left cause still 
   lasts = record { desk = tells; sink = put.tells; reads = reads; writes = writes; puts = put.later; drives = rack.lasts };
   answer = λ d h. absurd (unsettled status h put.range);
   unput = λ d six noreads nowrites. absurd (⊎_elim (λ p. noreads p.0) (λ p. nowrites p.0) cause);
+  unput_line = λ why e two six. absurd (words (outside_of old) why e two);
   stands = left;
   range = inr put.range;
   only_refused = λ h. absurd (unsettled status (refusal_settled status _ h) put.range);
@@ -444,6 +450,7 @@ run_over work old new status words rack works left over =
       };
       answer = λ d h. absurd (unsettled status h (inr (inr seven)));
       unput = λ d six noreads nowrites. absurd (omega (arith, six, seven));
+      unput_line = λ why e two six. absurd (words (outside_of old) why e two);
       stands = left;
       range = inr (inr (inr seven));
       only_refused = λ h. absurd (unsettled status (refusal_settled status _ h) (inr (inr seven)));

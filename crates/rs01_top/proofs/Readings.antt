@@ -26,7 +26,7 @@ use Rattle.rs01_top.specs.Outside.{World, outside_of}
 use Rattle.rs01_top.specs.Read.{CountsAsks, HasRead, MayStandAfterRead, Reading, ReadsSoFar, read_status, read_work, work_of_reading}
 use Rattle.rs01_top.specs.Scan.{medium_in}
 use Rattle.rs01_top.specs.Work.{fault_in}
-use Rattle.rs01_top.specs.Run.{Ends, IsKnown, IsRun, RaisedCount}
+use Rattle.rs01_top.specs.Run.{Ends, IsKnown, IsRun, HasDriveCause}
 use Rattle.rs01_top.proofs.Endings.{NotOfWords, SameOutside, done, out_of_memory, read_failed, refused, refused_by_drives, was_asked, write_failed}
 use Rattle.rs01_top.proofs.HeadFaults.{head_is}
 use Rattle.rs01_top.proofs.MediumFaults.{file_of, not_refused, of_err}
@@ -146,7 +146,7 @@ of_file reading old new why status three works lasts is ends =
 
 -- the drives are refused
 of_drives : (reading : Reading) (old new : World) (why : ReadRefusal) (status : ℕ)
-    → IsOfMedium why → status_of (read_fault why) ≡ 5 → RaisedCount (read_fault why) old.rack new.rack
+    → IsOfMedium why → status_of (read_fault why) ≡ 5 → HasDriveCause (read_fault why) old.rack new.rack
     → WorksOn reading.image old.desk new.desk false false → RackLasts old.rack new.rack → Told reading old new (Err why)
     → Ends (fault_line (read_fault why)) (status_of (read_fault why)) old.out new.out status
     → IsRun (work_of_reading reading) old new status
@@ -169,14 +169,14 @@ not_read reading old new (Ecc ecc.NoFile) status works lasts by cause is ends = 
 not_read reading old new (Ecc (ecc.Head why)) status works lasts by cause is ends = of_file reading old new (ecc.Head why) status (head_is why) works lasts is ends
 not_read reading old new (Ecc (ecc.Size have want)) status works lasts by cause is ends = of_file reading old new (ecc.Size have want) status refl works lasts is ends
 not_read reading old new (Ecc (ecc.Body have want)) status works lasts by cause is ends = of_file reading old new (ecc.Body have want) status refl works lasts is ends
-not_read reading old new (Ecc ecc.ReadFault) status works lasts by cause is ends = absurd cause
-not_read reading old new (Ecc ecc.OutOfMemory) status works lasts by cause is ends = absurd cause
-not_read reading old new (Rack rack.NoDrive) status works lasts by cause is ends = of_drives reading old new (Rack rack.NoDrive) status tt refl tt works lasts is ends
+not_read reading old new (Ecc ecc.ReadFault) status works lasts by cause is ends = absurd cause.0
+not_read reading old new (Ecc ecc.OutOfMemory) status works lasts by cause is ends = absurd cause.0
+not_read reading old new (Rack rack.NoDrive) status works lasts by cause is ends = of_drives reading old new (Rack rack.NoDrive) status tt refl by.0 works lasts is ends
 not_read reading old new (Rack (rack.Failed drive)) status works lasts by cause is ends =
-    of_drives reading old new (Rack (rack.Failed drive)) status tt refl by.1 works lasts is ends
+    of_drives reading old new (Rack (rack.Failed drive)) status tt refl by works lasts is ends
 not_read reading old new (Rack (rack.Differ first other)) status works lasts by cause is ends =
-    of_drives reading old new (Rack (rack.Differ first other)) status tt refl tt works lasts is ends
-not_read reading old new (DriveSize n) status works lasts by cause is ends = of_drives reading old new (DriveSize n) status tt refl tt works lasts is ends
+    of_drives reading old new (Rack (rack.Differ first other)) status tt refl by.0 works lasts is ends
+not_read reading old new (DriveSize n) status works lasts by cause is ends = of_drives reading old new (DriveSize n) status tt refl by works lasts is ends
 not_read reading old new ReadFault status works lasts by cause is ends =
     read_failed (work_of_reading reading) reading.image old new status (not_of_words reading)
     (was_asked (work_of_reading reading) old.rack new.rack refl lasts) works (stands reading old new ReadFault works.elsewhere is) ends

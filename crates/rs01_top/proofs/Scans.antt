@@ -21,7 +21,7 @@ use Rattle.rs01_top.specs.Faults.{ecc_fault, read_fault}
 use Rattle.rs01_top.specs.Outside.{Outside, World, outside_of}
 use Rattle.rs01_top.specs.Scan.{HasScanned, MayStandAfterScan, medium_in, scan_work, scanned_status}
 use Rattle.rs01_top.specs.Work.{fault_in}
-use Rattle.rs01_top.specs.Run.{Ends, IsKnown, IsRun, RaisedCount}
+use Rattle.rs01_top.specs.Run.{Ends, IsKnown, IsRun, HasDriveCause}
 use Rattle.rs01_top.proofs.Endings.{NotOfWords, SameOutside, done, out_of_memory, read_failed, refused, refused_by_drives, was_asked}
 use Rattle.rs01_top.proofs.HeadFaults.{head_is}
 use Rattle.rs01_top.proofs.MediumFaults.{file_of, not_refused, of_err}
@@ -94,7 +94,7 @@ of_file name old new why status three reads scans is ends =
 
 -- the drives are refused
 of_drives : (name : Option (List ℕ)) (old new : World) (why : ReadRefusal) (status : ℕ)
-    → IsOfMedium why → status_of (read_fault why) ≡ 5 → RaisedCount (read_fault why) old.rack new.rack
+    → IsOfMedium why → status_of (read_fault why) ≡ 5 → HasDriveCause (read_fault why) old.rack new.rack
     → OnlyReads old.desk new.desk false → Scans (Err why) old.rack new.rack
     → Refused name old new why
     → Ends (fault_line (read_fault why)) (status_of (read_fault why)) old.out new.out status
@@ -113,14 +113,14 @@ not_scanned name old new (Ecc ecc.NoFile) status reads scans cause is ends = of_
 not_scanned name old new (Ecc (ecc.Head why)) status reads scans cause is ends = of_file name old new (ecc.Head why) status (head_is why) reads scans is ends
 not_scanned name old new (Ecc (ecc.Size have want)) status reads scans cause is ends = of_file name old new (ecc.Size have want) status refl reads scans is ends
 not_scanned name old new (Ecc (ecc.Body have want)) status reads scans cause is ends = of_file name old new (ecc.Body have want) status refl reads scans is ends
-not_scanned name old new (Ecc ecc.ReadFault) status reads scans cause is ends = absurd cause
-not_scanned name old new (Ecc ecc.OutOfMemory) status reads scans cause is ends = absurd cause
-not_scanned name old new (Rack rack.NoDrive) status reads scans cause is ends = of_drives name old new (Rack rack.NoDrive) status tt refl tt reads scans is ends
+not_scanned name old new (Ecc ecc.ReadFault) status reads scans cause is ends = absurd cause.0
+not_scanned name old new (Ecc ecc.OutOfMemory) status reads scans cause is ends = absurd cause.0
+not_scanned name old new (Rack rack.NoDrive) status reads scans cause is ends = of_drives name old new (Rack rack.NoDrive) status tt refl scans.cause.0 reads scans is ends
 not_scanned name old new (Rack (rack.Failed drive)) status reads scans cause is ends =
     of_drives name old new (Rack (rack.Failed drive)) status tt refl scans.cause reads scans is ends
 not_scanned name old new (Rack (rack.Differ first other)) status reads scans cause is ends =
-    of_drives name old new (Rack (rack.Differ first other)) status tt refl tt reads scans is ends
-not_scanned name old new (DriveSize n) status reads scans cause is ends = of_drives name old new (DriveSize n) status tt refl tt reads scans is ends
+    of_drives name old new (Rack (rack.Differ first other)) status tt refl scans.cause.0 reads scans is ends
+not_scanned name old new (DriveSize n) status reads scans cause is ends = of_drives name old new (DriveSize n) status tt refl scans.cause reads scans is ends
 not_scanned name old new ReadFault status reads scans cause is ends =
     read_failed (scan_work name) [] old new status (not_of_words name) (was_asked (scan_work name) old.rack new.rack refl scans.lasts)
     (works-reads [] old.desk new.desk true reads) (stands name old new ReadFault reads.unchanged is) ends

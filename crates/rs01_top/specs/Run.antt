@@ -4,7 +4,10 @@ use Rattle.rs01_outside.specs.Causes.{Rose}
 use Rattle.rs01_outside.specs.DeskState.{DeskState}
 use Rattle.rs01_outside.specs.SinkState.{SinkState, Takes}
 use Rattle.rs01_linear.specs.Lasting as lasting
+use Rattle.rs01_linear.specs.Medium.{IsUnfit}
+use Rattle.rs01_rack.specs.Counting.{GivesNumber}
 use Rattle.rs01_rack.specs.Rack.{AllTell, AtDrive, FaultsRose, RackState}
+use Rattle.rs01_rack.specs.declared.refusal.RackRefusal.TheVariants as racks
 use Rattle.rs01_report.specs.declared.faults.Fault.{Fault}
 use Rattle.rs01_report.specs.declared.faults.Fault.TheVariants as fault
 use Rattle.rs01_report.specs.declared.puts.PutRefusal.{PutRefusal}
@@ -56,6 +59,11 @@ IsUnput work old new status = IsKnown work old new → status ≡ 6
     → ¬ Rose old.desk.read_faults new.desk.read_faults → ¬ Rose old.desk.write_faults new.desk.write_faults
     → (put : List ℕ) × (number : ℕ) × Answers work (outside_of old) (outside_of new) put number × Begins old.out new.out put
 
+-- the same of words that are refused, whatever files and drives tell: some first bytes of their line were put
+abbrev pub IsUnputLine : Work → World → World → ℕ → Type 0
+IsUnputLine work old new status = (why : Fault) → work.refusal (outside_of old) ≡ Some why → status_of why ≡ 2 → status ≡ 6
+    → Begins old.out new.out (fault_line why)
+
 -- what may stand after any status
 abbrev pub Stands : Work → World → World → Type 0
 Stands work old new = IsKnown work old new → work.may_stand (outside_of old) (outside_of new)
@@ -84,17 +92,21 @@ IsRefusedAs work old new status = (why : Fault) → work.refusal (outside_of old
     → (status_of why ≡ 2) ⊎ IsKnown work old new
     → (status ≡ status_of why) ⊎ (status ≡ 6) ⊎ (status ≡ 7) ⊎ ((status ≡ 4) × (status_of why ≢ 2))
 
--- a drive that is said to have failed raised its count of faults
-abbrev pub RaisedCount : Fault → RackState → RackState → Type 0
-RaisedCount (fault.Failed drive) old new = AtDrive old.drives new.drives drive FaultsRose
-RaisedCount why old new = Unit {0}
+-- drives are refused for what they gave when each was asked for its number: there are none, or one failed, whose count
+-- of faults rose, or two differ, or they agree on a number that no medium without a file can have
+abbrev pub HasDriveCause : Fault → RackState → RackState → Type 0
+HasDriveCause fault.NoDrive old new = GivesNumber (Err racks.NoDrive) old new
+HasDriveCause (fault.Failed drive) old new = GivesNumber (Err (racks.Failed drive)) old new × AtDrive old.drives new.drives drive FaultsRose
+HasDriveCause (fault.Differ first other) old new = GivesNumber (Err (racks.Differ first other)) old new
+HasDriveCause (fault.DriveSize n) old new = GivesNumber (Ok n) old new × IsUnfit n
+HasDriveCause why old new = ⊥
 
 -- drives that the work uses are refused, for this cause
 pub record RefusesDrives (work : Work) (old new : World) : Type 0 where
   pub used : IsTrue work.uses_drives
   pub why : Fault
   pub number : status_of why ≡ 5
-  pub raised : RaisedCount why old.rack new.rack
+  pub drives_are : HasDriveCause why old.rack new.rack
   pub line : Tells old.out new.out (fault_line why)
 
 -- the causes of the other statuses, by the counts of faults, with the line that was put
@@ -127,6 +139,7 @@ pub record IsRun (work : Work) (old new : World) (status : ℕ) : Type 0 where
   pub lasts : Lasts old new
   pub answer : IsAnswered work old new status
   pub unput : IsUnput work old new status
+  pub unput_line : IsUnputLine work old new status
   pub stands : Stands work old new
   pub range : IsStatus status
   pub only_refused : IsOnlyRefused work old new status

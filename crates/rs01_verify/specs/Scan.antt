@@ -3,18 +3,17 @@ use Rattle.std.specs.Prelude.{ℕ, zero, suc, ◌≡◌, ◌≤◌, Bool, false,
 use Rattle.std.specs.List.{range_with_len}
 use Rattle.std.specs.Option.{option_map}
 use Rattle.rs01_outside.specs.DriveView.{DriveView}
-use Rattle.rs01_rack.specs.Rack.{AtDrive, FaultsRose, RackState}
-use Rattle.rs01_rack.specs.declared.refusal.RackRefusal.TheVariants.{Failed}
+use Rattle.rs01_rack.specs.Rack.{RackState}
 use Rattle.rs01_ecchead.specs.Erased.{Known, counts_of}
 use Rattle.rs01_ecchead.specs.Opened.{Opened}
 use Rattle.rs01_linear.specs.Asking.{ask_drives, kind_of}
 use Rattle.rs01_linear.specs.Lasting.{AllRoseBy, RackLasts}
 use Rattle.rs01_linear.specs.Medium.{Found, found}
+use Rattle.rs01_linear.specs.Outcome.{RefusesBy}
 use Rattle.rs01_linear.specs.Refusal.{IsOfMedium}
 use Rattle.rs01_linear.specs.declared.asking.Asked.{Asked}
 use Rattle.rs01_linear.specs.declared.asking.Asked.TheVariants.{Altered, Read, Unreadable}
 use Rattle.rs01_linear.specs.declared.refusal.ReadRefusal.{ReadRefusal}
-use Rattle.rs01_linear.specs.declared.refusal.ReadRefusal.TheVariants.{Rack}
 use Rattle.rs01_report.specs.declared.reports.Fullest.{Fullest}
 use Rattle.rs01_report.specs.declared.reports.ScanReport.{ScanReport}
 use Rattle.rs01_verify.specs.Fullness.{fullest_of}
@@ -77,11 +76,10 @@ abbrev pub IsScanOf : Option (Option (List ℕ)) → List DriveView → List Dri
 IsScanOf file old new (Ok report) = IsOkAnd (found file old) (IsScanned old new report)
 IsScanOf file old new (Err why) = RefusesScan (found file old) old new why
 
--- each sector that is told to be unreadable raised the count of each drive, and so did a drive that is said to have failed
+-- each sector that is told to be unreadable raised the count of each drive, and drives are refused for what they gave
 abbrev pub HasScanCause : Result ScanReport ReadRefusal → RackState → RackState → Type 0
 HasScanCause (Ok report) old new = AllRoseBy (length report.unreadable) old new
-HasScanCause (Err (Rack (Failed place))) old new = AtDrive old.drives new.drives place FaultsRose
-HasScanCause (Err why) old new = Unit {0}
+HasScanCause (Err why) old new = RefusesBy {T = ScanReport} (Err why) old new
 
 -- what becomes of the drives in a scan, whatever they tell
 pub record Scans (answer : Result ScanReport ReadRefusal) (old new : RackState) : Type 0 where
