@@ -1,5 +1,5 @@
 -- A marker is a block, and tells its sector.
-use Rattle.std.proofs.Common.{◌≡◌, ℕ, zero, suc, ◌+◌, ◌-◌, ◌*◌, ◌/◌, ◌%◌, ◌^◌, ◌<◌, [], ◌∷◌, ◌++◌, length, refl, sym, ap, ◌∙◌, arith, length-append}
+use Rattle.std.proofs.Common.{◌≡◌, ℕ, zero, suc, ◌+◌, ◌-◌, ◌*◌, ◌/◌, ◌%◌, ◌^◌, ◌<◌, [], ◌∷◌, ◌++◌, length, get_or, refl, sym, ap, ◌∙◌, arith, length-append}
 use Rattle.std.proofs.lemmas.List.{append_cancel_left, append_cancel_right, length_push, same_from_push}
 use Rattle.std.proofs.Math.Nat.{pow-suc}
 use Rattle.std.specs.Prelude.{codes}
@@ -27,6 +27,11 @@ length-marker_text s =
 pub length-marker : MarkerIsABlock
 unfolding marker
 length-marker s = length-padded 2048 (marker_text s) (let e = length-marker_text s in omega arith)
+
+-- a marker begins with a letter
+pub first_of_marker : (s : ℕ) → get_or (marker s) 0 0 ≡ 114
+unfolding marker marker_text padded
+first_of_marker s = refl
 
 -- numbers of at most n digits with the same digits are the same
 same_digits : (n s t : ℕ) → s < 10 ^ n → t < 10 ^ n → digits n s ≡ digits n t → s ≡ t

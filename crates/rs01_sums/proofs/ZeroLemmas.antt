@@ -111,13 +111,14 @@ zero_bits_below (suc n) x =
     let e : x * 2 ^ suc n ≡ x * 2 ^ n * 2 = ap (λ m. x * m) power ∙ sym (mul_assoc x (2 ^ n) 2) in
     ap (λ y. after_zeros n (after_bit y 0)) e ∙ ap (after_zeros n) (double (x * 2 ^ n)) ∙ zero_bits_below n x
 
--- the lowest byte of a number, and the others
-pub after_zeros-split : (n x y : ℕ) → x < 256 → after_zeros (8 + n) (y * 256 + x) ≡ bit_xor (after_zeros (8 + n) x) (after_zeros n y)
-after_zeros-split n x y h =
-    let apart : bit_xor (y * 2 ^ 8) x ≡ y * 256 + x = xor_shifted y 8 x h in
-    ap (after_zeros (8 + n)) (sym apart) ∙ after_zeros-xor (8 + n) (y * 2 ^ 8) x
-    ∙ ap (λ z. bit_xor z (after_zeros (8 + n) x)) (after_zeros-add 8 n (y * 2 ^ 8) ∙ ap (after_zeros n) (zero_bits_below 8 y))
-    ∙ xor_comm (after_zeros n y) (after_zeros (8 + n) x)
+-- the lowest bits of a number, and the others
+after_zeros-split : (w n x y : ℕ) → x < 2 ^ w
+    → after_zeros (w + n) (y * 2 ^ w + x) ≡ bit_xor (after_zeros (w + n) x) (after_zeros n y)
+after_zeros-split w n x y h =
+    let apart : bit_xor (y * 2 ^ w) x ≡ y * 2 ^ w + x = xor_shifted y w x h in
+    ap (after_zeros (w + n)) (sym apart) ∙ after_zeros-xor (w + n) (y * 2 ^ w) x
+    ∙ ap (λ z. bit_xor z (after_zeros (w + n) x)) (after_zeros-add w n (y * 2 ^ w) ∙ ap (after_zeros n) (zero_bits_below w y))
+    ∙ xor_comm (after_zeros n y) (after_zeros (w + n) x)
 
 -- what each byte of a list leads to by the list's end, added together
 unfoldable pub gathered : List ℕ → ℕ
@@ -137,47 +138,37 @@ after_bytes-gathered (byte ∷ more) s small =
     ∙ xor_assoc (after_zeros (8 + n) s) (after_zeros (8 + n) byte) (gathered more)
     ∙ ap (λ k. bit_xor (after_zeros k s) (bit_xor (after_zeros (8 + n) byte) (gathered more))) (sym e)
 
--- four sums of two, by their parts
-four_sums : (s0 b0 s1 b1 s2 b2 s3 b3 : ℕ)
-    → bit_xor (bit_xor s0 b0) (bit_xor (bit_xor s1 b1) (bit_xor (bit_xor s2 b2) (bit_xor s3 b3)))
-    ≡ bit_xor (bit_xor s0 (bit_xor s1 (bit_xor s2 s3))) (bit_xor b0 (bit_xor b1 (bit_xor b2 b3)))
-four_sums s0 b0 s1 b1 s2 b2 s3 b3 =
-    ap (λ x. bit_xor (bit_xor s0 b0) (bit_xor (bit_xor s1 b1) x)) (xor_swap s2 b2 s3 b3)
-    ∙ ap (bit_xor (bit_xor s0 b0)) (xor_swap s1 b1 (bit_xor s2 s3) (bit_xor b2 b3))
-    ∙ xor_swap s0 b0 (bit_xor s1 (bit_xor s2 s3)) (bit_xor b1 (bit_xor b2 b3))
+-- a number of four bytes after zero bits
+pub four_bytes : (n a b c d : ℕ) → a < 256 → b < 256 → c < 256
+    → after_zeros (8 + (8 + (8 + n))) (((d * 256 + c) * 256 + b) * 256 + a)
+    ≡ bit_xor (after_zeros (8 + (8 + (8 + n))) a) (bit_xor (after_zeros (8 + (8 + n)) b) (bit_xor (after_zeros (8 + n) c) (after_zeros n d)))
+four_bytes n a b c d ha hb hc =
+    after_zeros-split 8 (8 + (8 + n)) a ((d * 256 + c) * 256 + b) ha
+    ∙ ap (bit_xor (after_zeros (8 + (8 + (8 + n))) a)) (after_zeros-split 8 (8 + n) b (d * 256 + c) hb
+    ∙ ap (bit_xor (after_zeros (8 + (8 + n)) b)) (after_zeros-split 8 n c d hc))
 
--- a number of four bytes after 64 zero bits
-four_bytes : (s0 s1 s2 s3 : ℕ) → s0 < 256 → s1 < 256 → s2 < 256
-    → after_zeros 64 (((s3 * 256 + s2) * 256 + s1) * 256 + s0)
-    ≡ bit_xor (after_zeros 64 s0) (bit_xor (after_zeros 56 s1) (bit_xor (after_zeros 48 s2) (after_zeros 40 s3)))
-four_bytes s0 s1 s2 s3 h0 h1 h2 =
-    after_zeros-split 56 s0 ((s3 * 256 + s2) * 256 + s1) h0
-    ∙ ap (bit_xor (after_zeros 64 s0)) (after_zeros-split 48 s1 (s3 * 256 + s2) h1 ∙ ap (bit_xor (after_zeros 56 s1)) (after_zeros-split 40 s2 s3 h2))
-
--- the number after eight bytes, from what each byte leads to
-pub eight_bytes : (s s0 s1 s2 s3 b0 b1 b2 b3 b4 b5 b6 b7 : ℕ)
-    → s ≡ ((s3 * 256 + s2) * 256 + s1) * 256 + s0 → s0 < 256 → s1 < 256 → s2 < 256
+-- the number after eight bytes, from the two numbers that they make by fours
+pub eight_bytes : (s b0 b1 b2 b3 b4 b5 b6 b7 : ℕ)
     → ((k : ℕ) → get_or (b0 ∷ b1 ∷ b2 ∷ b3 ∷ b4 ∷ b5 ∷ b6 ∷ b7 ∷ []) k 0 < 256)
-    → bit_xor
-    (bit_xor (after_zeros 64 (bit_xor s0 b0)) (bit_xor (after_zeros 56 (bit_xor s1 b1)) (bit_xor (after_zeros 48 (bit_xor s2 b2)) (after_zeros 40 (bit_xor s3 b3)))))
-    (bit_xor (after_zeros 32 b4) (bit_xor (after_zeros 24 b5) (bit_xor (after_zeros 16 b6) (after_zeros 8 b7))))
+    → bit_xor (after_zeros 64 (bit_xor s (((b3 * 256 + b2) * 256 + b1) * 256 + b0))) (after_zeros 32 (((b7 * 256 + b6) * 256 + b5) * 256 + b4))
     ≡ after_bytes s (b0 ∷ b1 ∷ b2 ∷ b3 ∷ b4 ∷ b5 ∷ b6 ∷ b7 ∷ [])
 unfolding gathered
-eight_bytes s s0 s1 s2 s3 b0 b1 b2 b3 b4 b5 b6 b7 e h0 h1 h2 small =
-    let far : ℕ = bit_xor (after_zeros 32 b4) (bit_xor (after_zeros 24 b5) (bit_xor (after_zeros 16 b6) (after_zeros 8 b7))) in
-    let near : ℕ = bit_xor (after_zeros 64 b0) (bit_xor (after_zeros 56 b1) (bit_xor (after_zeros 48 b2) (after_zeros 40 b3))) in
-    let parts : bit_xor (after_zeros 64 (bit_xor s0 b0)) (bit_xor (after_zeros 56 (bit_xor s1 b1)) (bit_xor (after_zeros 48 (bit_xor s2 b2)) (after_zeros 40 (bit_xor s3 b3))))
-    ≡ bit_xor (after_zeros 64 s) near =
-    (λ i. bit_xor (after_zeros-xor 64 s0 b0 i) (bit_xor (after_zeros-xor 56 s1 b1 i) (bit_xor (after_zeros-xor 48 s2 b2 i) (after_zeros-xor 40 s3 b3 i))))
-    ∙ four_sums (after_zeros 64 s0) (after_zeros 64 b0) (after_zeros 56 s1) (after_zeros 56 b1) (after_zeros 48 s2) (after_zeros 48 b2) (after_zeros 40 s3) (after_zeros 40 b3)
-    ∙ ap (λ x. bit_xor x near) (sym (ap (after_zeros 64) e ∙ four_bytes s0 s1 s2 s3 h0 h1 h2)) in
-    let nested : bit_xor near far ≡ gathered (b0 ∷ b1 ∷ b2 ∷ b3 ∷ b4 ∷ b5 ∷ b6 ∷ b7 ∷ []) =
-    xor_assoc (after_zeros 64 b0) (bit_xor (after_zeros 56 b1) (bit_xor (after_zeros 48 b2) (after_zeros 40 b3))) far
-    ∙ ap (bit_xor (after_zeros 64 b0)) (xor_assoc (after_zeros 56 b1) (bit_xor (after_zeros 48 b2) (after_zeros 40 b3)) far
-    ∙ ap (bit_xor (after_zeros 56 b1)) (xor_assoc (after_zeros 48 b2) (after_zeros 40 b3) far))
+eight_bytes s b0 b1 b2 b3 b4 b5 b6 b7 small =
+    let near : ℕ = ((b3 * 256 + b2) * 256 + b1) * 256 + b0 in
+    let far : ℕ = ((b7 * 256 + b6) * 256 + b5) * 256 + b4 in
+    let front : ℕ = bit_xor (after_zeros 64 b0) (bit_xor (after_zeros 56 b1) (bit_xor (after_zeros 48 b2) (after_zeros 40 b3))) in
+    let back : ℕ = bit_xor (after_zeros 32 b4) (bit_xor (after_zeros 24 b5) (bit_xor (after_zeros 16 b6) (after_zeros 8 b7))) in
+    let parts : bit_xor (after_zeros 64 near) (after_zeros 32 far) ≡ bit_xor front back =
+    (λ i. bit_xor (four_bytes 40 b0 b1 b2 b3 (small 0) (small 1) (small 2) i) (four_bytes 8 b4 b5 b6 b7 (small 4) (small 5) (small 6) i)) in
+    let nested : bit_xor front back ≡ gathered (b0 ∷ b1 ∷ b2 ∷ b3 ∷ b4 ∷ b5 ∷ b6 ∷ b7 ∷ []) =
+    xor_assoc (after_zeros 64 b0) (bit_xor (after_zeros 56 b1) (bit_xor (after_zeros 48 b2) (after_zeros 40 b3))) back
+    ∙ ap (bit_xor (after_zeros 64 b0)) (xor_assoc (after_zeros 56 b1) (bit_xor (after_zeros 48 b2) (after_zeros 40 b3)) back
+    ∙ ap (bit_xor (after_zeros 56 b1)) (xor_assoc (after_zeros 48 b2) (after_zeros 40 b3) back))
     ∙ ap (λ x. bit_xor (after_zeros 64 b0) (bit_xor (after_zeros 56 b1) (bit_xor (after_zeros 48 b2) (bit_xor (after_zeros 40 b3)
     (bit_xor (after_zeros 32 b4) (bit_xor (after_zeros 24 b5) (bit_xor (after_zeros 16 b6) x))))))) (sym (xor_zero_r (after_zeros 8 b7))) in
-    ap (λ x. bit_xor x far) parts ∙ xor_assoc (after_zeros 64 s) near far ∙ ap (bit_xor (after_zeros 64 s)) nested
+    ap (λ x. bit_xor x (after_zeros 32 far)) (after_zeros-xor 64 s near)
+    ∙ xor_assoc (after_zeros 64 s) (after_zeros 64 near) (after_zeros 32 far)
+    ∙ ap (bit_xor (after_zeros 64 s)) (parts ∙ nested)
     ∙ sym (after_bytes-gathered (b0 ∷ b1 ∷ b2 ∷ b3 ∷ b4 ∷ b5 ∷ b6 ∷ b7 ∷ []) s small)
 
 -- more zero bits
@@ -211,7 +202,7 @@ one_byte s byte entry h e =
     let whole : s / 256 * 256 + s % 256 ≡ s = omega arith in
     ap (λ x. bit_xor x (s / 256)) (e ∙ after_zeros-xor 8 (s % 256) byte)
     ∙ xor_last (after_zeros 8 (s % 256)) (after_zeros 8 byte) (s / 256)
-    ∙ ap (λ x. bit_xor x (after_zeros 8 byte)) (sym (after_zeros-split 0 (s % 256) (s / 256) (omega arith)) ∙ ap (after_zeros 8) whole)
+    ∙ ap (λ x. bit_xor x (after_zeros 8 byte)) (sym (after_zeros-split 8 0 (s % 256) (s / 256) (omega arith)) ∙ ap (after_zeros 8) whole)
     ∙ sym (after_zeros-xor 8 s byte) ∙ sym (after_bits-bits 8 s byte h)
 
 -- a list of eight
@@ -243,3 +234,33 @@ two_pieces xs ys s small =
   where
     xor_zero_l : (x : ℕ) → bit_xor 0 x ≡ x
     xor_zero_l x = xor_comm 0 x ∙ xor_zero_r x
+
+-- the lowest four bits of a number, and what is known of the others
+next_four : (n s t rest : ℕ) → s / 16 ≡ t → after_zeros n t ≡ rest
+    → after_zeros (4 + n) s ≡ bit_xor (after_zeros (4 + n) (s % 16)) rest
+next_four n s t rest e held =
+    let parts : s ≡ s / 16 * 16 + s % 16 = omega arith in
+    ap (after_zeros (4 + n)) parts ∙ after_zeros-split 4 n (s % 16) (s / 16) (omega arith)
+    ∙ ap (bit_xor (after_zeros (4 + n) (s % 16))) (ap (after_zeros n) e ∙ held)
+
+-- a number after 8192 zero bits, four of its bits at a time
+pub by_fours : (s : ℕ)
+    → bit_xor (after_zeros 8192 (s % 16)) (bit_xor (after_zeros 8188 (s / 16 % 16)) (bit_xor (after_zeros 8184 (s / 256 % 16))
+    (bit_xor (after_zeros 8180 (s / 4096 % 16)) (bit_xor (after_zeros 8176 (s / 65536 % 16)) (bit_xor (after_zeros 8172 (s / 1048576 % 16))
+    (bit_xor (after_zeros 8168 (s / 16777216 % 16)) (after_zeros 8164 (s / 268435456))))))))
+    ≡ after_zeros 8192 s
+by_fours s =
+    let r1 : ℕ = after_zeros 8164 (s / 268435456) in
+    let r2 : ℕ = bit_xor (after_zeros 8168 (s / 16777216 % 16)) r1 in
+    let r3 : ℕ = bit_xor (after_zeros 8172 (s / 1048576 % 16)) r2 in
+    let r4 : ℕ = bit_xor (after_zeros 8176 (s / 65536 % 16)) r3 in
+    let r5 : ℕ = bit_xor (after_zeros 8180 (s / 4096 % 16)) r4 in
+    let r6 : ℕ = bit_xor (after_zeros 8184 (s / 256 % 16)) r5 in
+    let r7 : ℕ = bit_xor (after_zeros 8188 (s / 16 % 16)) r6 in
+    sym (next_four 8188 s (s / 16) r7 refl
+    (next_four 8184 (s / 16) (s / 256) r6 (omega arith)
+    (next_four 8180 (s / 256) (s / 4096) r5 (omega arith)
+    (next_four 8176 (s / 4096) (s / 65536) r4 (omega arith)
+    (next_four 8172 (s / 65536) (s / 1048576) r3 (omega arith)
+    (next_four 8168 (s / 1048576) (s / 16777216) r2 (omega arith)
+    (next_four 8164 (s / 16777216) (s / 268435456) r1 (omega arith) refl)))))))

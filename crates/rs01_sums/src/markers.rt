@@ -38,6 +38,9 @@ pub fn marker(sector: u32, into: &mut [u8; 2048])
 pub fn is_marker(sector: u32, block: &[u8; 2048]) -> bool
     ensures { IsTrue result ↔ (block.now ≡ marker sector) }
 {
+    if block[0] != b'r' {
+        return false;
+    }
     let mut own = [0; 2048];
     marker(sector, &mut own);
     own == *block

@@ -13,6 +13,16 @@ fn known_checksums(rt: HostRuntime) {
     assert_eq!(rt; crc32(b""), 0);
 }
 
+// A block whose halves differ.
+#[test]
+fn checksum_of_a_block(rt: HostRuntime) {
+    let mut block = [0u8; 2048];
+    for (i, byte) in block.iter_mut().enumerate() {
+        *byte = (i % 251) as u8;
+    }
+    assert_eq!(rt; crc32(&block), 0xdd34_ad61);
+}
+
 #[test]
 fn marker_of_sector_7(rt: HostRuntime) {
     let mut block = [1u8; 2048];

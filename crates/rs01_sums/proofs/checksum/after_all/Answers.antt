@@ -5,10 +5,6 @@ use Rattle.rs01_sums.proofs.checksum.after_all.Goals as goal
 
 pub loop-rest-preserved : goal.loop-rest-preserved
 loop-rest-preserved c =
-    let halves =
-    (λ i. c.split_at-in-loop-rest.ensures.front i ++ c.split_at-in-loop-rest.ensures.back i)
-    ∙ take-append-drop 8 c.split_at.result.0.now ∙ c.split_at.ensures.front in
-    next_piece c.loop-rest.rest.now (c.split_at-in-loop-rest.result.0.now ++ c.split_at-in-loop-rest.result.1.now) c.split_at.result.1.now
-    c.loop-rest.state c.after_sixteen-state.result _
-    (sym ((λ i. halves i ++ c.split_at.ensures.back i) ∙ take-append-drop 16 c.loop-rest.rest.now))
+    next_piece c.loop-rest.rest.now c.split_at.result.0.now c.split_at.result.1.now c.loop-rest.state c.after_sixteen-state.result _
+    (sym ((λ i. c.split_at.ensures.front i ++ c.split_at.ensures.back i) ∙ take-append-drop 16 c.loop-rest.rest.now))
     c.after_sixteen-state.ensures c.loop-rest.invariant

@@ -1,12 +1,11 @@
-use Rattle.std.proofs.Common.{◌≡◌, ◌*◌, length, bit_xor, ap, ◌∙◌, arith}
-use Rattle.rs01_sums.specs.Crc.{after_bytes, after_zeros}
-use Rattle.rs01_sums.proofs.ZeroLemmas.{two_pieces}
+use Rattle.std.proofs.Common.{arith}
+use Rattle.rs01_sums.specs.Crc.{after_zeros}
+use Rattle.rs01_sums.proofs.ChecksumSteps.{joined}
 use Rattle.rs01_sums.proofs.checksum.after_sixteen.Goals as goal
 
 pub returns : goal.returns
 unfolding after_zeros
 returns c =
-    let wide : 8 * 8 ≡ 8 * length c.args.back.now = omega (arith, c.requires.back) in
-    (λ i. bit_xor (c.after_eight.ensures i) (c.after_eight-2.ensures i))
-    ∙ ap (λ n. bit_xor (after_zeros n (after_bytes c.args.state c.args.front.now)) (after_bytes 0 c.args.back.now)) wide
-    ∙ two_pieces c.args.front.now c.args.back.now c.args.state (λ k. omega (arith, c.type_inv.back k))
+    joined c.args.sixteen.now c.split_at.result.0.now c.split_at.result.1.now 8 64 c.args.state c.after_eight.result c.after_eight-2.result
+    c.split_at.ensures.front c.split_at.ensures.back (omega (arith, c.split_at.ensures.back_len)) (λ k. omega (arith, c.type_inv.sixteen k))
+    c.after_eight.ensures c.after_eight-2.ensures
