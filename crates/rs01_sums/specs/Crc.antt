@@ -1,5 +1,5 @@
 -- The checksum CRC-32 of ISO/IEC 13239, bit by bit, with the lowest bit of each byte first.
-use Rattle.std.specs.Prelude.{ℕ, zero, suc, ◌-◌, ◌/◌, ◌%◌, ◌==◌, if◌then◌else◌, List, [], ◌∷◌, bit_xor}
+use Rattle.std.specs.Prelude.{ℕ, zero, suc, ◌+◌, ◌*◌, ◌-◌, ◌/◌, ◌%◌, ◌==◌, if◌then◌else◌, List, [], ◌∷◌, bit_xor, slice_index}
 
 -- n bits of a number, the lowest first
 unfoldable pub bits : ℕ → ℕ → List ℕ
@@ -26,3 +26,8 @@ after_bytes state (byte ∷ more) = after_bytes (after_bits state (bits 8 byte))
 -- the checksum of a list of bytes: the complement of the number after its last bit
 unfoldable pub crc : List ℕ → ℕ
 crc bytes = 0xFFFFFFFF - after_bytes 0xFFFFFFFF bytes
+
+-- the four bytes from a place on as a number, the lowest first
+abbrev pub word_at : List ℕ → ℕ → ℕ
+word_at bytes i =
+    ((slice_index bytes (i + 3) * 256 + slice_index bytes (i + 2)) * 256 + slice_index bytes (i + 1)) * 256 + slice_index bytes i

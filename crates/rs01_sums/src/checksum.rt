@@ -1,13 +1,14 @@
 //! The checksum of a sector.
 
 ghost use Rattle.std.specs.Prelude.{◌≡◌, ◌+◌, ◌*◌, ◌<◌, ◌≤◌, ◌++◌, length};
-ghost use Rattle.rs01_sums.specs.Crc.{after_bits, after_bytes, after_zeros, bits, crc};
+ghost use Rattle.rs01_sums.specs.Crc.{after_bits, after_bytes, after_zeros, bits, crc, word_at};
 
 use crate::tables::{AFTER_HALF, AFTER_ZEROS};
 
 // The number that a byte leads to after 8, 16, .. 128 zero bits, by the table's row.
-fn entry(row: usize, byte: u8) -> u32
-    requires { row < 16 }
+fn entry(row: usize, byte: u32) -> u32
+    requires row { row < 16 }
+    requires byte { byte < 256 }
     ensures { result ≡ after_zeros (8 * (row + 1)) byte }
 {
     AFTER_ZEROS[row][byte as usize]
@@ -17,18 +18,20 @@ fn entry(row: usize, byte: u8) -> u32
 fn after_byte(state: u32, byte: u8) -> u32
     ensures { result ≡ after_bits state (bits 8 byte) }
 {
-    entry(0, (state % 256) as u8 ^ byte) ^ (state / 256)
+    entry(0, ((state % 256) as u8 ^ byte) as u32) ^ (state / 256)
 }
 
-// Four bytes as a number, the lowest first.
-#[inline(always)]
-fn word(first: u8, second: u8, third: u8, fourth: u8) -> u32
-    ensures { result ≡ ((fourth * 256 + third) * 256 + second) * 256 + first }
+// The four bytes from a place on as a number, the lowest first. It isn't marked to be inlined: by itself it
+// becomes a single load.
+fn word(bytes: &[u8], at: usize) -> u32
+    requires { at + 4 ≤ length bytes.now }
+    ensures { result ≡ word_at bytes.now at }
 {
-    u32::from(first)
-        + 256 * u32::from(second)
-        + 65_536 * u32::from(third)
-        + 16_777_216 * u32::from(fourth)
+    let first = bytes[at] as u32;
+    let second = bytes[at + 1] as u32;
+    let third = bytes[at + 2] as u32;
+    let fourth = bytes[at + 3] as u32;
+    first + 256 * second + 65_536 * third + 16_777_216 * fourth
 }
 
 // The number that four bytes lead to after their own bits and as many zero bytes as the row says. Each leads
@@ -38,10 +41,10 @@ fn after_four(row: usize, four: u32) -> u32
     requires { row ≤ 12 }
     ensures { result ≡ after_zeros (8 * (row + 4)) four }
 {
-    let first = entry(row + 3, (four % 256) as u8);
-    let second = entry(row + 2, (four / 256 % 256) as u8);
-    let third = entry(row + 1, (four / 65_536 % 256) as u8);
-    let fourth = entry(row, (four / 16_777_216) as u8);
+    let first = entry(row + 3, four % 256);
+    let second = entry(row + 2, four / 256 % 256);
+    let third = entry(row + 1, four / 65_536 % 256);
+    let fourth = entry(row, four / 16_777_216);
     first ^ (second ^ (third ^ fourth))
 }
 
@@ -53,8 +56,8 @@ fn after_eight(row: usize, state: u32, eight: &[u8]) -> u32
     requires eight { length eight.now ≡ 8 }
     ensures { result ≡ after_zeros (8 * row) (after_bytes state eight.now) }
 {
-    let near = word(eight[0], eight[1], eight[2], eight[3]);
-    let far = word(eight[4], eight[5], eight[6], eight[7]);
+    let near = word(eight, 0);
+    let far = word(eight, 4);
     after_four(row + 4, state ^ near) ^ after_four(row, far)
 }
 

@@ -1,4 +1,4 @@
-use Rattle.std.proofs.Common.{◌≡◌, ℕ, List, ◌*◌, ◌+◌, bit_xor, get_or, arith, sym, ap, ◌∙◌}
+use Rattle.std.proofs.Common.{ℕ, List, ◌*◌, ◌+◌, bit_xor, get_or, arith, sym, ap, ◌∙◌}
 use Rattle.rs01_sums.specs.Crc.{after_bytes, after_zeros}
 use Rattle.rs01_sums.proofs.ZeroLemmas.{after_zeros-xor, eight_bytes, eight_of, further}
 use Rattle.rs01_sums.proofs.checksum.after_eight.Goals as goal

@@ -1,4 +1,4 @@
-use Rattle.std.proofs.Common.{◌≡◌, get_or, ap, sym, ◌∙◌}
+use Rattle.std.proofs.Common.{get_or, ap, ◌∙◌}
 use Rattle.std.proofs.lemmas.Bool.{false≢true}
 use Rattle.rs01_sums.proofs.MarkerLemmas.{first_of_marker}
 use Rattle.rs01_sums.proofs.markers.is_marker.Goals as goal
