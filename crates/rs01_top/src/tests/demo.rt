@@ -63,7 +63,9 @@ fn two_windows(rt: HostRuntime) -> Result<(), Fail> {
         (648, 0, 648, 0, "is"),
     ] {
         let line = format!(in rt.alloc(); "demo 7 20000 8 {lost}")?;
-        let ends = format!(in rt.alloc(); "restored {restored}\nlost {left}\nimage {what} the original\n")?;
+        let ends = format!(in rt.alloc();
+            "restored {restored}\nlost {left}\nimage {what} the original\n"
+        )?;
         let want = format!(in rt.alloc(); "{line}\n{begins}{ends}")?;
         let ran = puts(rt.alloc(), &line, &mut desk, &want)?;
         assert_eq!(rt; ran, (status, true), "{line}");
@@ -75,7 +77,10 @@ fn two_windows(rt: HostRuntime) -> Result<(), Fail> {
         "fixed demo.iso\nrestored 500: 19500-19999\nlost 0: none\nstrange layers 0\nsurplus bytes 0\n";
     let ran = puts(rt.alloc(), "fix demo.iso demo.ecc", &mut desk, want)?;
     assert_eq!(rt; ran, (0, true), "cut to 19500 sectors");
-    assert!(rt; desk.file("demo.iso") == Some(original.as_slice()), "the image comes back");
+    assert!(rt;
+        desk.file("demo.iso") == Some(original.as_slice()),
+        "the image comes back"
+    );
     Ok(())
 }
 
