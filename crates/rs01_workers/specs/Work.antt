@@ -43,3 +43,8 @@ pub record Gathers {F : Type 0} (gave : F → List ℕ) (fits : F → LayerInput
 abbrev pub Stands : {F S : Type 0} → (going done : F → Type 0) → (halted : F → S → Type 0) → F → WindowStop S → Type 0
 Stands going done halted filler (Stopped stop) = halted filler stop
 Stands going done halted filler OutOfMemory = going filler ⊎ done filler
+
+-- these inputs, each with the task's value
+pub record IsWorkOf (value : LayerInput → LayerOut) (posted inputs : List LayerInput) (outs : List LayerOut) : Type 0 where
+  pub same : inputs ≡ posted
+  pub values : outs ≡ map value inputs

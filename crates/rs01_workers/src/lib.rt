@@ -6,11 +6,15 @@
 #![tactic(auto)]
 
 mod alone;
+mod beside;
+mod filled;
 mod filler;
+mod finish;
 mod results;
 mod windows;
 
 pub use alone::{work_all_one, work_one};
+pub use beside::{work_all, work_window};
 pub use filler::Filler;
 pub use results::{Results, WindowStop};
 pub use windows::Windows;

@@ -1,27 +1,16 @@
 //! Windows of inputs that are counted.
-ghost use Rattle.std.specs.Prelude.{◌≡◌, ◌+◌, ◌-◌, ◌<◌, ◌≤◌, [], IfOk, refl};
+ghost use Rattle.std.specs.Prelude.{◌≡◌, ◌+◌, ◌-◌, ◌<◌, ◌≤◌, []};
 ghost use Rattle.std.proofs.Common.{rules};
 ghost use Rattle.std.specs.List.{range_with_len};
-ghost use Rattle.rs01_layers.specs.declared.task.LayerOut.TheVariants.{Beyond};
 
 use super::*;
-use rs01_layers::{Bytes, Flags, LayerInput, LayerOut, LayerTask, SumList};
-use std::alloc::{AllocError, Global};
-use std::process::Abort;
+use rs01_fakes::{MeetGate, Numbering, OnceRefusing, numbered_layer};
+use rs01_layers::{LayerInput, LayerOut};
+use rs01_outside::{Gate, OpenGate};
+use std::alloc::Global;
+use std::sync::Wait;
 use std::test::Fail;
-
-// Tells the layer of each input.
-struct Telling;
-
-impl LayerTask for Telling {
-    ghost fit = { λ input. Unit {0} };
-
-    ghost value = { λ input. Beyond input.layer };
-
-    fn work(&self, _alloc: Global, input: &LayerInput) -> Result<LayerOut, AllocError> {
-        Ok(LayerOut::Beyond(input.layer))
-    }
-}
+use std::thread::Threads;
 
 #[derive(Clone, Copy, PartialEq, Eq, Debug)]
 enum Why {
@@ -39,22 +28,6 @@ struct Counting {
     windows: u32,
     ghost order: { first ≤ next },
     ghost within: { next ≤ to },
-}
-
-fn counted(alloc: Global, layer: u32) -> Result<LayerInput, AllocError>
-    ensures { IfOk result (λ input. input.layer ≡ layer) }
-{
-    let blocks = vec![in alloc; 0u8; 2048 * 155]?;
-    let erased = vec![in alloc; false; 155]?;
-    let sums = vec![in alloc; 0u32; 155]?;
-    Ok(LayerInput {
-        layer,
-        parity_count: 100,
-        data_: Bytes::of(blocks),
-        erased: Flags::of(erased),
-        sums: SumList::of(sums),
-        parity: Bytes::of(Vec::new(alloc)),
-    })
 }
 
 impl Filler for Counting {
@@ -83,7 +56,7 @@ impl Filler for Counting {
         if self.next == self.stop_at {
             return Err(Why::Asked);
         }
-        match counted(alloc, self.next) {
+        match numbered_layer(alloc, self.next) {
             Ok(input) => {
                 self.next += 1;
                 Ok(Some(input))
@@ -93,7 +66,7 @@ impl Filler for Counting {
     }
 }
 
-impl Windows<Telling> for Counting {
+impl Windows<Numbering> for Counting {
     ghost left = { λ f. f.to - f.first };
 
     ghost finished = { λ f. f.next ≡ f.to };
@@ -121,48 +94,122 @@ fn layers_to(to: u32, stop_at: u32) -> Counting
     }
 }
 
-// How many inputs the first window of so many layers has, and whether it is the last one.
-fn first_window(rt: &impl Abort, alloc: Global, to: u32) -> Result<(u32, bool), Fail> {
-    let mut layers = layers_to(to, u32::MAX);
-    let results = match work_one(alloc, &Telling, &mut layers) {
-        Ok(results) => results,
-        Err(_) => return Err(Fail::from("it stopped")),
-    };
+// How many inputs a window has, and whether it is the last one. None where an input or its value is another than that of
+// the layer with its number.
+fn told(results: &Results) -> Option<(u32, bool)> {
     for i in 0..results.len() {
-        assert_eq!(rt; results.input(i).layer, i);
-        assert!(rt; matches!(results.out(i), LayerOut::Beyond(layer) if *layer == i));
+        if results.input(i).layer != i {
+            return None;
+        }
+        if !matches!(results.out(i), LayerOut::Beyond(layer) if *layer == i) {
+            return None;
+        }
     }
-    Ok((results.len(), results.over()))
+    Some((results.len(), results.over()))
+}
+
+// The first window of so many layers, by the caller alone.
+fn first_window_one(alloc: Global, to: u32) -> Option<(u32, bool)> {
+    let mut layers = layers_to(to, u32::MAX);
+    match work_one(alloc, &Numbering, &mut layers) {
+        Ok(results) => told(&results),
+        Err(_) => None,
+    }
+}
+
+// The first window of so many layers, by so many workers. One of them lacks memory once, at one layer.
+fn first_window<R: Threads + Wait + Sync, G: Gate>(
+    rt: &R,
+    alloc: Global,
+    gate: &G,
+    to: u32,
+    workers: u32,
+) -> Option<(u32, bool)>
+    requires { 0 < workers }
+{
+    let task = OnceRefusing::new(Numbering, to / 2);
+    let mut layers = layers_to(to, u32::MAX);
+    match work_window(rt, alloc, &task, &mut layers, workers, gate) {
+        Ok(results) => told(&results),
+        Err(_) => None,
+    }
 }
 
 #[test]
 fn windows_have_up_to_64_inputs(rt: HostRuntime) -> Result<(), Fail> {
     let alloc = rt.alloc();
-    assert_eq!(rt; first_window(&rt, alloc, 0)?, (0, true));
-    assert_eq!(rt; first_window(&rt, alloc, 1)?, (1, true));
-    assert_eq!(rt; first_window(&rt, alloc, 63)?, (63, true));
-    assert_eq!(rt; first_window(&rt, alloc, 64)?, (64, false));
-    assert_eq!(rt; first_window(&rt, alloc, 65)?, (64, false));
+    assert_eq!(rt; first_window_one(alloc, 0), Some((0, true)));
+    assert_eq!(rt; first_window_one(alloc, 1), Some((1, true)));
+    assert_eq!(rt; first_window_one(alloc, 63), Some((63, true)));
+    assert_eq!(rt; first_window_one(alloc, 64), Some((64, false)));
+    assert_eq!(rt; first_window_one(alloc, 65), Some((64, false)));
     Ok(())
 }
 
-// How many windows so many layers take, and whether the filler stopped.
-fn windows_of(alloc: Global, to: u32, stop_at: u32) -> (u32, bool) {
-    let mut layers = layers_to(to, stop_at);
-    let stopped = match work_all_one(alloc, &Telling, &mut layers) {
+#[test]
+fn workers_give_what_the_caller_alone_gives(rt: HostRuntime) -> Result<(), Fail> {
+    let alloc = rt.alloc();
+    let gate = &OpenGate;
+    assert_eq!(rt; first_window(&rt, alloc, gate, 0, 1), Some((0, true)));
+    assert_eq!(rt; first_window(&rt, alloc, gate, 65, 1), Some((64, false)));
+    assert_eq!(rt; first_window(&rt, alloc, gate, 1, 2), Some((1, true)));
+    assert_eq!(rt; first_window(&rt, alloc, gate, 63, 2), Some((63, true)));
+    assert_eq!(rt; first_window(&rt, alloc, gate, 0, 3), Some((0, true)));
+    assert_eq!(rt; first_window(&rt, alloc, gate, 64, 3), Some((64, false)));
+    Ok(())
+}
+
+// The first one that takes an input goes on once the other one took one too.
+#[test]
+fn the_caller_and_a_worker_meet(rt: HostRuntime) -> Result<(), Fail> {
+    let alloc = rt.alloc();
+    let gate = MeetGate::new();
+    assert_eq!(rt; first_window(&rt, alloc, &gate, 2, 2), Some((2, true)));
+    assert!(rt; gate.met());
+    Ok(())
+}
+
+// How many windows were taken, and whether the filler stopped as it was asked to.
+fn ended(layers: &Counting, end: Result<(), WindowStop<Why>>) -> (u32, bool) {
+    let stopped = match end {
         Err(WindowStop::Stopped(why)) => why == Why::Asked,
         _ => false,
     };
     (layers.windows, stopped)
 }
 
+fn windows_one(alloc: Global, to: u32, stop_at: u32) -> (u32, bool) {
+    let mut layers = layers_to(to, stop_at);
+    let end = work_all_one(alloc, &Numbering, &mut layers);
+    ended(&layers, end)
+}
+
+fn windows_of<R: Threads + Wait + Sync>(
+    rt: &R,
+    alloc: Global,
+    to: u32,
+    stop_at: u32,
+) -> (u32, bool) {
+    let mut layers = layers_to(to, stop_at);
+    let end = work_all(rt, alloc, &Numbering, &mut layers, 2, &OpenGate);
+    ended(&layers, end)
+}
+
 #[test]
 fn windows_follow_until_no_input_is_left(rt: HostRuntime) -> Result<(), Fail> {
     let alloc = rt.alloc();
-    assert_eq!(rt; windows_of(alloc, 0, 9), (1, false));
-    assert_eq!(rt; windows_of(alloc, 64, 99), (2, false));
-    assert_eq!(rt; windows_of(alloc, 65, 99), (2, false));
-    assert_eq!(rt; windows_of(alloc, 129, 200), (3, false));
-    assert_eq!(rt; windows_of(alloc, 129, 100), (1, true));
+    assert_eq!(rt; windows_one(alloc, 0, 9), (1, false));
+    assert_eq!(rt; windows_one(alloc, 64, 99), (2, false));
+    assert_eq!(rt; windows_one(alloc, 65, 99), (2, false));
+    assert_eq!(rt; windows_one(alloc, 129, 200), (3, false));
+    assert_eq!(rt; windows_one(alloc, 129, 100), (1, true));
+    Ok(())
+}
+
+#[test]
+fn workers_of_each_window_end_with_it(rt: HostRuntime) -> Result<(), Fail> {
+    let alloc = rt.alloc();
+    assert_eq!(rt; windows_of(&rt, alloc, 65, 99), (2, false));
+    assert_eq!(rt; windows_of(&rt, alloc, 70, 66), (1, true));
     Ok(())
 }
