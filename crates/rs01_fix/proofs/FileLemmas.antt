@@ -22,7 +22,7 @@ use Rattle.rs01_fix.specs.Steps.{IsFoundIn}
 use Rattle.rs01_fix.specs.Between.{IsBetween}
 use Rattle.rs01_fix.specs.Repair.{fixed, report_of}
 use Rattle.rs01_fix.specs.Answer.{MayStand, Repaired, answer_with, fix_answer, refusal_of, repaired}
-use Rattle.rs01_fix.specs.Outcome.{Fixes, IsOfFiles, IsOfRepair, Repairs}
+use Rattle.rs01_fix.specs.Outcome.{IsOfFiles, IsOfRepair, Refuses, Repairs}
 use Rattle.rs01_fix.specs.declared.refusal.FixRefusal.{FixRefusal}
 use Rattle.rs01_fix.specs.declared.refusal.FixRefusal.TheVariants.{NoFile, Head, Size, Body, ReadFault, WriteFault, OutOfMemory}
 
@@ -124,15 +124,13 @@ of_repair WriteFault is of = of
 of_repair OutOfMemory is of = of
 
 -- the ways that a repair ends: refused with no change, repaired, and ended underway
-pub ends_refused : (image ecc : List ℕ) (cut : Bool) (old new : Files) (result : Result FixReport FixRefusal) (why told : FixRefusal) → result ≡ Err told → told ≡ why
-    → (IsOfFiles why → fix_answer (old ecc) (old image) cut ≡ Err why) → new ≡ old → Fixes image ecc cut old new result
-ends_refused image ecc cut old new result why told e same refused unchanged =
-    subst (λ (r : Result FixReport FixRefusal). Fixes image ecc cut old new r) (sym (e ∙ ap (λ (w : FixRefusal). let r : Result FixReport FixRefusal = Err w in r) same))
-    (record {
-      refused = refused;
-      unchanged = λ of. unchanged;
-      left = old_may_stand (old ecc) (old image) (new image) cut (ap (λ (f : Files). f image) unchanged);
-    })
+pub ends_refused : (image ecc : List ℕ) (cut : Bool) (old new : Files) (why : FixRefusal) → (IsOfFiles why → fix_answer (old ecc) (old image) cut ≡ Err why) → new ≡ old
+    → Refuses image ecc cut old new why
+ends_refused image ecc cut old new why refused unchanged = record {
+  refused = refused;
+  unchanged = λ of. unchanged;
+  left = old_may_stand (old ecc) (old image) (new image) cut (ap (λ (f : Files). f image) unchanged);
+}
 
 pub ends_repaired : (image ecc : List ℕ) (cut : Bool) (old new : Files) (told : FixReport) (c : Opened) (y : List ℕ)
     → fix_answer (old ecc) (old image) cut ≡ Ok (repaired c y cut) → new image ≡ Some (fixed c y cut) → told ≡ report_of c y cut → SameElsewhere image old new
@@ -142,16 +140,13 @@ ends_repaired image ecc cut old new told c y ok there report elsewhere =
     subst (λ (a : Result Repaired FixRefusal). IsOkAnd a (Repairs image old new told)) (sym ok)
     (record { file = record { there = there; elsewhere = elsewhere }; report = report })
 
-pub ends_underway : (image ecc : List ℕ) (cut : Bool) (old new : Files) (result : Result FixReport FixRefusal) (why told : FixRefusal) (c : Opened) (y : List ℕ)
-    → result ≡ Err told → told ≡ why → IsOfRepair why → fix_answer (old ecc) (old image) cut ≡ Ok (repaired c y cut) → old image ≡ Some y
-    → IsSomeAnd (new image) (IsBetween y (fixed c y cut)) → Fixes image ecc cut old new result
-ends_underway image ecc cut old new result why told c y e same of ok there way =
-    subst (λ (r : Result FixReport FixRefusal). Fixes image ecc cut old new r) (sym (e ∙ ap (λ (w : FixRefusal). let r : Result FixReport FixRefusal = Err w in r) same))
-    (record {
-      refused = λ is. absurd (of_repair why of is);
-      unchanged = λ is. absurd (of_repair why of is);
-      left = way_may_stand c y cut (fix_answer (old ecc) (old image) cut) (old image) (new image) ok there way;
-    })
+pub ends_underway : (image ecc : List ℕ) (cut : Bool) (old new : Files) (why : FixRefusal) (c : Opened) (y : List ℕ) → IsOfRepair why
+    → fix_answer (old ecc) (old image) cut ≡ Ok (repaired c y cut) → old image ≡ Some y → IsSomeAnd (new image) (IsBetween y (fixed c y cut)) → Refuses image ecc cut old new why
+ends_underway image ecc cut old new why c y of ok there way = record {
+  refused = λ is. absurd (of_repair why of is);
+  unchanged = λ is. absurd (of_repair why of is);
+  left = way_may_stand c y cut (fix_answer (old ecc) (old image) cut) (old image) (new image) ok there way;
+}
 
 pub is_ok_answer : (a : Result Repaired FixRefusal) (v : Repaired) → a ≡ Ok v → IsOk a
 is_ok_answer a v e = subst (λ (a : Result Repaired FixRefusal). IsOk a) (sym e) refl

@@ -12,3 +12,4 @@ mod Later
 mod WindowLemmas
 mod CourseLemmas
 mod EngineLemmas
+mod Ends

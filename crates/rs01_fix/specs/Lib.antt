@@ -8,3 +8,4 @@ pub mod Places
 pub mod Windows
 pub mod GoingOn
 pub mod ComesBack
+pub mod Fixing

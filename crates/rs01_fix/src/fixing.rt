@@ -1,26 +1,21 @@
-//! Repairing an image by its error correction file, on one thread.
-ghost use Rattle.std.specs.Prelude.{◌≢◌, IfErr, false, is_err};
-ghost use Rattle.rs01_outside.specs.DeskState.{OnlyChanges};
-ghost use Rattle.rs01_repair.specs.Finding.{Sources};
-ghost use Rattle.rs01_fix.specs.ComesBack.{BringsBack};
-ghost use Rattle.rs01_fix.specs.Outcome.{FixesOn, IsOfRepair, TellsTwo, Works, WritesLast};
-ghost use Rattle.rs01_fix.specs.Steps.{
-  ByEcc,
-  IsRepaired,
-  IsUnderway,
-  Leads,
-  RepairsImage,
-  Tells,
-};
+//! Repairing an image by its error correction file, on one thread and by several.
+ghost use Rattle.std.specs.Prelude.{◌≡◌, ◌≢◌, ◌≤◌, List, OnOk, false, is_err, ℕ};
+ghost use Rattle.rs01_outside.specs.DeskState.{DeskState, OnlyChanges};
+ghost use Rattle.rs01_repair.specs.Finding.{Sources, layers_in};
+ghost use Rattle.rs01_fix.specs.Fixing.{IsFix, IsWorked};
+ghost use Rattle.rs01_fix.specs.Steps.{HasRoom, IsRepaired, IsUnderway, Leads};
 
-use crate::engine::repair_layers;
-use crate::find::find;
+use crate::course::Course;
+use crate::engine::{work_windows, work_windows_one};
+use crate::find::{Start, begin};
 use crate::refusal::FixRefusal;
 use crate::told::{is_cut, report};
-use rs01_outside::{Desk, Failed};
+use rs01_outside::{Desk, Failed, Gate};
 use rs01_repair::Found;
 use rs01_report::FixReport;
 use std::alloc::Global;
+use std::sync::Wait;
+use std::thread::Threads;
 
 // Cuts the bytes past the image, where they are to be cut and there were some.
 fn cut_surplus<D: Desk>(desk: &mut D, name: &str, found: &Found, cut: bool) -> Result<(), Failed>
@@ -35,32 +30,37 @@ fn cut_surplus<D: Desk>(desk: &mut D, name: &str, found: &Found, cut: bool) -> R
     Ok(())
 }
 
-// Repairs an image that was found, and tells of it.
-fn repair<D: Desk>(
+// Ends a repair whose windows were worked: tells of the image, and cuts the bytes past it.
+fn finish<D: Desk>(
     alloc: Global,
     desk: &mut D,
     image: &str,
-    ecc: &str,
     found: &Found,
     cut: bool,
+    course: Course,
+    worked: Result<(), FixRefusal>,
 ) -> Result<FixReport, FixRefusal>
-    requires { image.now ≢ ecc.now }
-    ensures works { Works image.now (D.state desk.old) (D.state desk.new) result }
-    ensures report { Tells found.now cut image.now ecc.now (D.state desk.old) result }
-    ensures put { ByEcc found.now ecc.now (D.state desk.old) (λ was. RepairsImage
-        found.now was cut image.now (D.state desk.old) (D.state desk.new) result) }
-    ensures causes { IfErr result IsOfRepair }
+    requires { OnOk worked (HasRoom found.now (layers_in found.now) course.repairs) }
+    ensures { (ecc : List ℕ) (old : DeskState)
+        → IsWorked image.now ecc old (D.state desk.old) found.now course worked
+        → IsFix image.now ecc cut old (D.state desk.new) result }
 {
-    let repairs = repair_layers(alloc, desk, image, ecc, found)?;
-    let told = report(alloc, found, repairs, cut)?;
-    match cut_surplus(desk, image, found, cut) {
-        Ok(()) => Ok(told),
-        Err(Failed) => Err(FixRefusal::WriteFault),
+    match worked {
+        Ok(()) => {
+            let Ok(told) = report(alloc, found, course.repairs, cut) else {
+                return Err(FixRefusal::OutOfMemory);
+            };
+            match cut_surplus(desk, image, found, cut) {
+                Ok(()) => Ok(told),
+                Err(Failed) => Err(FixRefusal::WriteFault),
+            }
+        }
+        Err(why) => Err(why),
     }
 }
 
-/// Repairs the image under the name `image` by the error correction file under `ecc`. With `cut` the bytes past the
-/// image are cut.
+/// Repairs the image under the name `image` by the error correction file under `ecc`, on the caller's thread. With `cut`
+/// the bytes past the image are cut.
 ///
 /// Up to 64 neighbouring layers are read at a time, each of their places by one call of the desk, and then settled: the
 /// layers are taken in rising order, and in each its sectors. Memory is asked for one such window, and for some bytes
@@ -78,12 +78,52 @@ pub fn fix_one<D: Desk>(
     cut: bool,
 ) -> Result<FixReport, FixRefusal>
     requires { image.now ≢ ecc.now }
-    ensures works { Works image.now (D.state desk.old) (D.state desk.new) result }
-    ensures answer { FixesOn image.now ecc.now cut (D.state desk.old) (D.state desk.new) result }
-    ensures comes_back { BringsBack image.now ecc.now (D.state desk.old) (D.state desk.new) result }
-    ensures write_fault_last { WritesLast image.now ecc.now cut (D.state desk.old) result }
-    ensures differ { IfErr result TellsTwo }
+    ensures { IsFix image.now ecc.now cut (D.state desk.old) (D.state desk.new) result }
 {
-    let found = find(alloc, desk, image, ecc)?;
-    Ok(repair(alloc, desk, image, ecc, &found, cut)?)
+    match begin(alloc, desk, image, ecc) {
+        Ok(Start { found, course }) => {
+            let mut course = course;
+            let worked = work_windows_one(alloc, desk, image, ecc, &found, &mut course);
+            finish(alloc, desk, image, &found, cut, course, worked)
+        }
+        Err(why) => Err(why),
+    }
+}
+
+/// The same by so many workers, of which the caller is the first: files, report and refusals are those of `fix_one`.
+///
+/// The caller alone uses the desk. The others correct the layers of a window while the next ones are handed over. Nothing
+/// is said of whether it returns, since it waits for the others.
+pub fn fix<R: Threads + Wait + Sync, D: Desk, G: Gate>(
+    rt: &R,
+    alloc: Global,
+    desk: &mut D,
+    image: &str,
+    ecc: &str,
+    cut: bool,
+    workers: u32,
+    gate: &G,
+) -> Result<FixReport, FixRefusal>
+    requires differ { image.now ≢ ecc.now }
+    requires workers { (1 ≤ workers) × (workers ≤ 32) }
+    ensures { IsFix image.now ecc.now cut (D.state desk.old) (D.state desk.new) result }
+{
+    match begin(alloc, desk, image, ecc) {
+        Ok(Start { found, course }) => {
+            let mut course = course;
+            let worked = work_windows(
+                rt,
+                alloc,
+                desk,
+                image,
+                ecc,
+                &found,
+                &mut course,
+                workers,
+                gate,
+            );
+            finish(alloc, desk, image, &found, cut, course, worked)
+        }
+        Err(why) => Err(why),
+    }
 }

@@ -14,7 +14,7 @@ mod told;
 mod window;
 mod windows;
 
-pub use fixing::fix_one;
+pub use fixing::{fix, fix_one};
 pub use refusal::FixRefusal;
 
 #[cfg(test)]
