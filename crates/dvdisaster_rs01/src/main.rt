@@ -21,8 +21,9 @@ const NO_WORDS: u8 = 8;
 // The grammar has no more drives in a line.
 const MOST_DRIVES: usize = 16;
 
-// The memory that the system's allocator is to keep.
-const KEPT: usize = 16 * 1024 * 1024;
+// Half of the memory that the system's allocator is to keep: a window of 64 layers, with what is made of it, takes up
+// to 60 MiB. A block of 32 MiB or more would be no sign to it.
+const KEPT: usize = 31 * 1024 * 1024;
 
 // Takes a block and gives it back, without touching it. The allocator of the system takes this as a sign that blocks of
 // such a size come again, and keeps what is freed from then on: else it would hand each layer's buffers back to the

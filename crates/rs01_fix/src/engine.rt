@@ -34,8 +34,8 @@ pub fn work_windows_one<D: Desk>(
 ) -> Result<(), FixRefusal>
     requires going { IsGoing found.now image.now ecc.now (D.state desk.old) course.old }
     requires none { given course.old ≡ [] }
-    ensures { AreWorked
-        found.now image.now ecc.now (D.state desk.old) course.old (D.state desk.new) course.new result }
+    ensures { AreWorked found.now image.now ecc.now (D.state desk.old) course.old
+        (D.state desk.new) course.new result }
 {
     let mut repairing = Repairing {
         desk,
@@ -65,8 +65,8 @@ pub fn work_windows<R: Threads + Wait + Sync, D: Desk, G: Gate>(
     requires some { 0 < workers }
     requires going { IsGoing found.now image.now ecc.now (D.state desk.old) course.old }
     requires none { given course.old ≡ [] }
-    ensures { AreWorked
-        found.now image.now ecc.now (D.state desk.old) course.old (D.state desk.new) course.new result }
+    ensures { AreWorked found.now image.now ecc.now (D.state desk.old) course.old
+        (D.state desk.new) course.new result }
 {
     let mut repairing = Repairing {
         desk,

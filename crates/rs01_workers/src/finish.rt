@@ -36,7 +36,8 @@ fn finish<T: LayerTask>(
 ) -> Result<(Vec<LayerInput>, Vec<LayerOut>), AllocError>
     requires fit { All T.fit (map source given.items) }
     requires right { All (IsRight T.value) given.items }
-    ensures { IfOk result (λ all. IsWorkOf T.value (map source given.items) all.0.items all.1.items) }
+    ensures { IfOk result (λ all.
+        IsWorkOf T.value (map source given.items) all.0.items all.1.items) }
 {
     let mut inputs = Vec::new(alloc);
     let mut outs = Vec::new(alloc);
