@@ -1,6 +1,6 @@
 -- One ask for the next sector, by what the code's parts leave.
-use Rattle.std.proofs.Common.{◌≡◌, ℕ, ◌*◌, ◌<◌, ◌≤◌, List, length, take, refl, sym, ap, subst, ◌∙◌, arith}
-use Rattle.std.specs.Prelude.{IsTrue, Option, Some, None, Result, Ok, Err, is_err}
+use Rattle.std.proofs.Common.{◌≡◌, ℕ, ◌*◌, ◌<◌, List, length, take, sym, ap, subst, arith}
+use Rattle.std.specs.Prelude.{IsTrue, Option, Some, Result, is_err}
 use Rattle.std.specs.Option.{option_map}
 use Rattle.rs01_outside.specs.DeskState.{DeskState, OnlyChanges}
 use Rattle.rs01_outside.specs.Files.{WritesAt}
@@ -17,9 +17,9 @@ use Rattle.rs01_linear.specs.Medium.{known_of}
 use Rattle.rs01_linear.specs.declared.asking.Asked.{Asked}
 use Rattle.rs01_linear.specs.declared.asking.Asked.TheVariants.{Altered, Read, Unreadable}
 use Rattle.rs01_linear.specs.declared.medium.Medium.{Medium}
-use Rattle.rs01_turns.specs.Laws.{AskedFor, Puts, PutsIfRead}
+use Rattle.rs01_turns.specs.Laws.{Puts, PutsIfRead}
 use Rattle.rs01_turns.specs.Leads.{Leads}
-use Rattle.rs01_turns.specs.Moments.{IsReady, Moment, known_at}
+use Rattle.rs01_turns.specs.Moments.{IsReady, Moment}
 use Rattle.rs01_turns.specs.Turns.{next_sector}
 use Rattle.rs01_turns.proofs.Asking.{ask-leads}
 use Rattle.rs01_turns.proofs.Turning.{next-unread}

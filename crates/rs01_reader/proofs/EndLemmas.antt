@@ -1,22 +1,19 @@
 -- What was given goes on to fit, and what is given next fits.
-use Rattle.std.proofs.Common.{◌≡◌, ℕ, ◌+◌, ◌-◌, ◌*◌, ◌%◌, ◌<◌, ◌≤◌, ⊎_elim, List, [], ◌∷◌, ◌++◌, length, get_or, map, refl, sym, ap, subst, ◌∙◌, arith}
-use Rattle.std.specs.Prelude.{Bool, true, false, ◌≢◌, ◌&&◌, nat_lt, if◌then◌else◌, Contains, IsSome, IsSomeAnd, IsTrue, Option, Some, None, Ok, Err}
+use Rattle.std.proofs.Common.{◌≡◌, ℕ, ◌-◌, ◌%◌, ◌<◌, ◌≤◌, ⊎_elim, List, [], ◌∷◌, ◌++◌, length, get_or, refl, sym, ap, subst, ◌∙◌, arith}
+use Rattle.std.specs.Prelude.{Bool, false, ◌≢◌, ◌&&◌, nat_lt, if◌then◌else◌, IsSome, IsSomeAnd, IsTrue, Option, Some, None, Ok, Err}
 use Rattle.std.specs.Option.{option_map}
 use Rattle.std.specs.List.{range_with_len}
 use Rattle.std.proofs.lemmas.Bool.{cases_lt, le-ltb, lt-ltb}
-use Rattle.std.proofs.lemmas.List.FromFn.{get_or-range_with_len, length-range_with_len}
-use Rattle.rs01_lists.specs.Bytes.{padded, part}
-use Rattle.rs01_layers.specs.Layout.{file_size, layers_of, number_at, sector_at}
-use Rattle.rs01_layers.specs.Sectors.{block, length_of}
+use Rattle.rs01_lists.specs.Bytes.{padded}
+use Rattle.rs01_layers.specs.Layout.{file_size, layers_of, number_at}
+use Rattle.rs01_layers.specs.Sectors.{block}
 use Rattle.rs01_layers.specs.declared.input.LayerInput.{LayerInput}
 use Rattle.rs01_layers.specs.declared.shape.Shape.{Shape}
 use Rattle.rs01_layers.proofs.PlaceLemmas.{each_sector_has_one_place}
-use Rattle.rs01_outside.specs.Causes.{Rose}
 use Rattle.rs01_outside.specs.DeskState.{DeskState, OnlyReads}
 use Rattle.rs01_outside.specs.Files.{Files, bytes_of}
 use Rattle.rs01_rack.specs.Rack.{RackState}
 use Rattle.rs01_states.specs.Sparing.{is_open, is_unread, layer_count, state_of}
-use Rattle.rs01_states.specs.declared.state.State.{State}
 use Rattle.rs01_ecchead.specs.Erased.{Known, block_in, known_of as known_in, image_len}
 use Rattle.rs01_ecchead.specs.Head.{fields_of}
 use Rattle.rs01_ecchead.specs.Header.{Fields}
@@ -29,15 +26,16 @@ use Rattle.rs01_repair.specs.Inputs.{IsInput, block_at as block_at_place, blocks
 use Rattle.rs01_linear.specs.Medium.{known_of}
 use Rattle.rs01_linear.specs.declared.medium.Medium.{Medium}
 use Rattle.rs01_turns.specs.Leads.{Leads}
-use Rattle.rs01_turns.specs.Moments.{IsReady, Moment, Setting, image_at, known_at}
+use Rattle.rs01_turns.specs.Moments.{IsReady, Moment, Setting}
 use Rattle.rs01_turns.proofs.Leading.{give-leads, leads-on, read-leads}
 use Rattle.rs01_reader.specs.Courses.{CourseSeen}
 use Rattle.rs01_reader.specs.Inputs.{CanRead, IsBuilt, IsBuiltBy, is_gone}
-use Rattle.rs01_reader.specs.Settled.{Fits, Going, Halted, HasParity, IsInputAt, IsInputBy, IsNamed, IsSet, IsShapeOf, Settled, block_at, gone_at, moment}
-use Rattle.rs01_reader.specs.Steps.{Ended, GaveNone, GaveUp, Gives, GivesLayer, IsOfReading, Picked, Picks, is_read_stop}
+use Rattle.rs01_reader.specs.Settled.{Fits, Going, Halted, IsInputAt, IsInputBy, IsNamed, IsSet, IsShapeOf, Settled, block_at, gone_at, moment}
+use Rattle.rs01_reader.specs.Steps.{Counts, Gives, GivesLayer, IsOfReading, Picked, Picks, is_read_stop}
 use Rattle.rs01_reader.specs.declared.setup.Setup.{Setup}
 use Rattle.rs01_reader.specs.declared.stop.Stop.{Stop}
 use Rattle.rs01_reader.specs.declared.stop.Stop.TheVariants.{OutOfMemory, ReadFault, WriteFault}
+use Rattle.rs01_reader.proofs.CountLemmas.{counts-as, counts-fails, counts-read, counts-stop}
 use Rattle.rs01_reader.proofs.GiveLemmas.{settled-stays}
 use Rattle.rs01_reader.proofs.OnLemmas.{rose-from}
 use Rattle.rs01_ecchead.proofs.Shapes.{is_shape}
@@ -239,15 +237,16 @@ picked-of setup c0 c2 d0 d2 r0 r2 o l e picks = (subst (λ (x : Option ℕ). Pic
 
 gives-at :
     (setup : Setup) (c0 c2 : CourseSeen) (d0 d2 d3 : DeskState) (r0 r2 : RackState) (l : ℕ) (input : LayerInput) (failed : Bool) → Going (moment setup c0 r0 d0)
-    → Leads (moment setup c0 r0 d0) (moment setup c2 r2 d2) → Picked setup c0 c2 d2 r2 l → OnlyReads d2 d3 failed → IsBuiltBy setup c2 d2 l input
+    → Leads (moment setup c0 r0 d0) (moment setup c2 r2 d2) → Counts setup d0 d3 (Ok (Some input)) r0 r2 → Picked setup c0 c2 d2 r2 l → OnlyReads d2 d3 failed → IsBuiltBy setup c2 d2 l input
     → Gives setup c0 (record c2 { given = c2.given ++ l ∷ [] }) d0 d3 (Ok (Some input)) r0 r2
-gives-at setup c0 c2 d0 d2 d3 r0 r2 l input failed going leads picked reads built =
+gives-at setup c0 c2 d0 d2 d3 r0 r2 l input failed going leads counts picked reads built =
     let more = c2.given ++ l ∷ [] in
     let c3 : CourseSeen = record c2 { given = more } in
     let all = leads-on (moment setup c0 r0 d0) (moment setup c2 r2 d2) (moment setup c3 r2 d3) leads
     (leads-on (moment setup c2 r2 d2) (moment setup c2 r2 d3) (moment setup c3 r2 d3) (read-leads (moment setup c2 r2 d2) d3 failed reads) (give-leads (moment setup c2 r2 d3) l picked.settled.there picked.fresh)) in
     record {
       leads = all;
+      counts = counts;
       kept = λ x fits. fits-goes-on (moment setup c0 r0 d0) (moment setup c3 r2 d3) x all going.set_up fits;
       ended = record {
         given = (λ i. picked.given_same i ++ (sym built.layer i) ∷ []);
@@ -261,16 +260,17 @@ gives-at setup c0 c2 d0 d2 d3 r0 r2 l input failed going leads picked reads buil
 
 pub gives-input :
     (setup : Setup) (c0 c2 c3 : CourseSeen) (d0 d2 d3 : DeskState) (r0 r2 : RackState) (o : Option ℕ) (l : ℕ) (input : LayerInput) (failed : Bool) → Going (moment setup c0 r0 d0) → o ≡ Some l
-    → Picks setup c0 c2 d0 d2 (Ok o) r0 r2 → OnlyReads d2 d3 failed → GivesLayer setup c2 c3 d2 l (Ok input) → Gives setup c0 c3 d0 d3 (Ok (Some input)) r0 r2
-gives-input setup c0 c2 c3 d0 d2 d3 r0 r2 o l input failed going e picks reads gives =
+    → Picks setup c0 c2 d0 d2 (Ok o) r0 r2 → OnlyReads d2 d3 failed → failed ≡ false → GivesLayer setup c2 c3 d2 l (Ok input) → Gives setup c0 c3 d0 d3 (Ok (Some input)) r0 r2
+gives-input setup c0 c2 c3 d0 d2 d3 r0 r2 o l input failed going e picks reads not_ gives =
     subst (λ (v : CourseSeen). Gives setup c0 v d0 d3 (Ok (Some input)) r0 r2) (sym gives.0)
-    (gives-at setup c0 c2 d0 d2 d3 r0 r2 l input failed going picks.leads (picked-of setup c0 c2 d0 d2 r0 r2 o l e picks) reads gives.1)
+    (gives-at setup c0 c2 d0 d2 d3 r0 r2 l input failed going picks.leads (counts-read setup d0 d2 d3 r0 r2 o (Some input) failed not_ picks.counts reads) (picked-of setup c0 c2 d0 d2 r0 r2 o l e picks) reads gives.1)
 
 pub gives-none :
     (setup : Setup) (c0 c2 : CourseSeen) (d0 d2 : DeskState) (r0 r2 : RackState) (o : Option ℕ) → Going (moment setup c0 r0 d0) → o ≡ None → Picks setup c0 c2 d0 d2 (Ok o) r0 r2
     → Gives setup c0 c2 d0 d2 (Ok None) r0 r2
 gives-none setup c0 c2 d0 d2 r0 r2 o going e picks = record {
   leads = picks.leads;
+  counts = counts-as setup d0 d2 r0 r2 o None picks.counts;
   kept = λ x fits. fits-goes-on (moment setup c0 r0 d0) (moment setup c2 r2 d2) x picks.leads going.set_up fits;
   ended = (subst (λ (x : Option ℕ). Picks setup c0 c2 d0 d2 (Ok x) r0 r2) e picks).none;
 }
@@ -280,6 +280,7 @@ pub gives-stop :
     → Gives setup c0 c2 d0 d2 (Err stop) r0 r2
 gives-stop setup c0 c2 d0 d2 r0 r2 stop going picks = record {
   leads = picks.leads;
+  counts = counts-stop setup d0 d2 r0 r2 stop picks.counts;
   kept = λ x fits. fits-goes-on (moment setup c0 r0 d0) (moment setup c2 r2 d2) x picks.leads going.set_up fits;
   ended = picks.halted;
 }
@@ -293,11 +294,12 @@ stopped-by setup c rack d d' OutOfMemory reads of before = tt
 
 fails-at :
     (setup : Setup) (c0 c2 : CourseSeen) (d0 d2 d3 : DeskState) (r0 r2 : RackState) (l : ℕ) (stop : Stop) → Going (moment setup c0 r0 d0) → Leads (moment setup c0 r0 d0) (moment setup c2 r2 d2)
-    → Picked setup c0 c2 d2 r2 l → OnlyReads d2 d3 (is_read_stop {T = LayerInput} (Err stop)) → IsOfReading stop → Gives setup c0 c2 d0 d3 (Err stop) r0 r2
-fails-at setup c0 c2 d0 d2 d3 r0 r2 l stop going leads picked reads of =
+    → Counts {T = Option LayerInput} setup d0 d3 (Err stop) r0 r2 → Picked setup c0 c2 d2 r2 l → OnlyReads d2 d3 (is_read_stop {T = LayerInput} (Err stop)) → IsOfReading stop → Gives setup c0 c2 d0 d3 (Err stop) r0 r2
+fails-at setup c0 c2 d0 d2 d3 r0 r2 l stop going leads counts picked reads of =
     let all = leads-on (moment setup c0 r0 d0) (moment setup c2 r2 d2) (moment setup c2 r2 d3) leads (read-leads (moment setup c2 r2 d2) d3 _ reads) in
     record {
       leads = all;
+      counts = counts;
       kept = λ x fits. fits-goes-on (moment setup c0 r0 d0) (moment setup c2 r2 d3) x all going.set_up fits;
       ended = record { given_same = picked.given_same; halted = stopped-by setup c2 r2 d2 d3 stop reads of picked.going.reads_rise };
     }
@@ -307,4 +309,4 @@ pub gives-fails :
     → Picks setup c0 c2 d0 d2 (Ok o) r0 r2 → OnlyReads d2 d3 (is_read_stop {T = LayerInput} (Err stop)) → GivesLayer setup c2 c3 d2 l (Err stop) → Gives setup c0 c3 d0 d3 (Err stop) r0 r2
 gives-fails setup c0 c2 c3 d0 d2 d3 r0 r2 o l stop going e picks reads gives =
     subst (λ (v : CourseSeen). Gives setup c0 v d0 d3 (Err stop) r0 r2) (sym gives.0)
-    (fails-at setup c0 c2 d0 d2 d3 r0 r2 l stop going picks.leads (picked-of setup c0 c2 d0 d2 r0 r2 o l e picks) reads gives.1)
+    (fails-at setup c0 c2 d0 d2 d3 r0 r2 l stop going picks.leads (counts-fails setup d0 d2 d3 r0 r2 o stop gives.1 picks.counts reads) (picked-of setup c0 c2 d0 d2 r0 r2 o l e picks) reads gives.1)

@@ -1,26 +1,20 @@
 -- Picking the next settled layer keeps what a reader promises.
-use Rattle.std.proofs.Common.{◌≡◌, ℕ, ◌+◌, ◌%◌, ◌<◌, ◌≤◌, ⊎_elim, List, [], ◌∷◌, ◌++◌, length, refl, sym, ap, subst, ◌∙◌, arith}
-use Rattle.std.specs.Prelude.{Bool, true, false, Contains, IsTrue, Option, Some, None, Ok, Err}
+use Rattle.std.proofs.Common.{◌≡◌, ℕ, ◌+◌, ◌%◌, ◌<◌, ◌≤◌, ⊎_elim, List, [], ◌∷◌, ◌++◌, refl, sym, ap, subst, ◌∙◌, arith}
+use Rattle.std.specs.Prelude.{Contains, Option, Some, None, Ok, Err}
 use Rattle.std.proofs.lemmas.Bool.{cases_lt, false≢true, false_from_ne_true}
 use Rattle.std.proofs.lemmas.List.Elements.{Contains-append_left, Contains-append_cases, Contains-push}
-use Rattle.rs01_layers.specs.declared.shape.Shape.{Shape}
-use Rattle.rs01_outside.specs.Causes.{Rose}
-use Rattle.rs01_outside.specs.DeskState.{DeskState, OnlyReads}
-use Rattle.rs01_outside.specs.Files.{Files, bytes_of}
-use Rattle.rs01_ecchead.specs.Erased.{image_len}
+use Rattle.rs01_outside.specs.DeskState.{DeskState}
 use Rattle.rs01_rack.specs.Rack.{RackState}
-use Rattle.rs01_states.specs.Sparing.{is_unread, is_within, layer_count, state_of}
-use Rattle.rs01_states.specs.declared.state.State.{State}
+use Rattle.rs01_states.specs.Sparing.{is_unread, is_within, layer_count}
 use Rattle.rs01_turns.specs.Leads.{Leads}
-use Rattle.rs01_turns.specs.Moments.{IsReady, Moment, Setting, known_at}
+use Rattle.rs01_turns.specs.Moments.{IsReady, Moment, Setting}
 use Rattle.rs01_turns.proofs.Layering.{within-goes-on}
 use Rattle.rs01_turns.proofs.Leading.{leads-on, look-leads, one-element, ready-on}
 use Rattle.rs01_reader.specs.Courses.{CourseSeen, IsSpared, LooksAtAll, LooksTo}
-use Rattle.rs01_reader.specs.Settled.{Done, GivenBelow, Going, Halted, IsSet, Settled, moment}
-use Rattle.rs01_reader.specs.Steps.{Ends, GaveNone, GaveUp, OnlyAsked, Picked, Picks, ReadsOn, Settles, WithinStay, WriteFailed}
+use Rattle.rs01_reader.specs.Settled.{Going, Halted, IsSet, Settled, moment}
+use Rattle.rs01_reader.specs.Steps.{Ends, GaveNone, GaveUp, OnlyAsked, Picked, Picks, ReadsOn, Settles, WriteFailed}
 use Rattle.rs01_reader.specs.declared.setup.Setup.{Setup}
 use Rattle.rs01_reader.specs.declared.stop.Stop.{Stop}
-use Rattle.rs01_reader.specs.declared.stop.Stop.TheVariants.{WriteFault}
 use Rattle.rs01_reader.proofs.OnLemmas.{rose-from}
 
 -- a settled layer stays so
@@ -202,6 +196,7 @@ picks-some setup c0 c1 c2 d1 d2 r1 r2 o l going looks e reads =
     let found = subst (λ (x : Option ℕ). ReadsOn setup c1 c2 d1 d2 (Ok x) r1 r2) e reads in
     record {
       leads = leads-after setup c0 c1 c2 d1 d2 r1 r2 looks found.leads;
+      counts = found.counts;
       picked = later-picks setup c0 c1 c2 d1 d2 r1 r2 l (given-looked c0 c1 looks) (looked-going setup c0 c1 r1 d1 going looks) (all-looked c0 c1 looks) found.leads found.only found.spared found.settles;
       none = tt;
       halted = tt;
@@ -214,6 +209,7 @@ picks-none setup c0 c1 c2 d1 d2 r1 r2 o going looks e reads =
     let found = subst (λ (x : Option ℕ). ReadsOn setup c1 c2 d1 d2 (Ok x) r1 r2) e reads in
     record {
       leads = leads-after setup c0 c1 c2 d1 d2 r1 r2 looks found.leads;
+      counts = found.counts;
       picked = tt;
       none = later-none setup c0 c1 c2 d1 d2 r1 r2 (given-looked c0 c1 looks) (looked-going setup c0 c1 r1 d1 going looks) (all-looked c0 c1 looks) found.only found.ends;
       halted = tt;
@@ -224,6 +220,7 @@ pub picks-stop :
     → ReadsOn setup c1 c2 d1 d2 (Err stop) r1 r2 → Picks setup c0 c2 d1 d2 (Err stop) r1 r2
 picks-stop setup c0 c1 c2 d1 d2 r1 r2 stop going looks reads = record {
   leads = leads-after setup c0 c1 c2 d1 d2 r1 r2 looks reads.leads;
+  counts = reads.counts;
   picked = tt;
   none = tt;
   halted = later-stops setup c0 c1 c2 d1 d2 r1 r2 stop (given-looked c0 c1 looks) (looked-going setup c0 c1 r1 d1 going looks) reads.only reads.halted;

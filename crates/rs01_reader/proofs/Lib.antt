@@ -7,3 +7,4 @@ mod AskLemmas
 mod OnLemmas
 mod GiveLemmas
 mod EndLemmas
+mod CountLemmas

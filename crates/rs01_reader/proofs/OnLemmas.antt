@@ -1,6 +1,6 @@
 -- Reading on until a layer is settled.
-use Rattle.std.proofs.Common.{inl, inr, ◌≡◌, ℕ, ◌+◌, ◌%◌, ◌<◌, ◌≤◌, ⊎_elim, List, length, refl, sym, ap, subst, ◌∙◌, arith}
-use Rattle.std.specs.Prelude.{◌⊎◌, ◌&&◌, not, Bool, true, false, ◌≢◌, if◌then◌else◌, IfSome, Option, Some, None}
+use Rattle.std.proofs.Common.{inl, inr, ◌≡◌, ℕ, ◌+◌, ◌%◌, ◌^◌, ◌<◌, ◌≤◌, ⊎_elim, List, refl, sym, ap, subst, ◌∙◌, arith}
+use Rattle.std.specs.Prelude.{◌⊎◌, ◌&&◌, not, Bool, true, false, if◌then◌else◌, IfSome, Option, Some, None, Ok}
 use Rattle.std.specs.Option.{unwrap_or}
 use Rattle.std.proofs.Math.ListN.{set}
 use Rattle.std.proofs.lemmas.Bool.{cases_eq, cases_Bool, false≢true, false_from_ne_true}
@@ -10,29 +10,31 @@ use Rattle.rs01_layers.specs.declared.shape.Shape.{Shape}
 use Rattle.rs01_outside.specs.Causes.{Rose}
 use Rattle.rs01_outside.specs.DeskState.{DeskState}
 use Rattle.rs01_rack.specs.Rack.{RackState}
-use Rattle.rs01_states.specs.Sparing.{IsUnread, is_unread, is_within, layer_count, newly_within, settled, state_of, within_bound}
+use Rattle.rs01_states.specs.Sparing.{IsUnread, is_within, layer_count, newly_within, settled}
 use Rattle.rs01_states.specs.declared.state.State.{State}
-use Rattle.rs01_states.specs.declared.state.State.TheVariants.{Failed, Good}
+use Rattle.rs01_states.specs.declared.state.State.TheVariants.{Good}
 use Rattle.rs01_states.proofs.SparedLemmas.{none-is-left}
 use Rattle.rs01_linear.specs.declared.asking.Asked.{Asked}
 use Rattle.rs01_linear.specs.declared.asking.Asked.TheVariants.{Altered, Read, Unreadable}
 use Rattle.rs01_turns.specs.Leads.{Leads}
-use Rattle.rs01_turns.specs.Turns.{NoneUnread, next_sector, states_after}
+use Rattle.rs01_turns.specs.Turns.{next_sector, states_after}
 use Rattle.rs01_turns.proofs.Layering.{within-goes-on}
-use Rattle.rs01_turns.proofs.Leading.{leads-on}
+use Rattle.rs01_turns.proofs.Leading.{leads-on, look-leads}
 use Rattle.rs01_turns.proofs.Turning.{next-none, next-unread}
 use Rattle.rs01_turns.proofs.Unreads.{after-less, unreads}
-use Rattle.rs01_reader.specs.Courses.{CourseSeen, IsSpared, course_after, settled_after}
-use Rattle.rs01_reader.specs.Settled.{Settled, moment}
-use Rattle.rs01_reader.specs.Steps.{Ends, OnlyAsked, Settles, Went, WithinStay, WriteFailed}
+use Rattle.rs01_reader.specs.Courses.{CourseSeen, IsSpared, settled_after}
+use Rattle.rs01_reader.specs.Settled.{moment}
+use Rattle.rs01_reader.specs.Steps.{Counts, Ends, OnlyAsked, Settles, Went, WithinStay, WriteFailed}
 use Rattle.rs01_reader.specs.declared.stop.Stop.{Stop}
 use Rattle.rs01_reader.specs.declared.setup.Setup.{Setup}
+use Rattle.rs01_reader.proofs.CountLemmas.{counts-as, counts-start, counts-then}
 use Rattle.rs01_reader.proofs.SpareLemmas.{failed-spared, failed-within, other-within, spared-within}
 use Rattle.rs01_reader.proofs.WholeLemmas.{newly-there}
 
 -- no layer was settled so far
 pub record ReadingOn (setup : Setup) (old now : CourseSeen) (desk desk' : DeskState) (rack rack' : RackState) : Type 0 where
   pub leads : Leads (moment setup old rack desk) (moment setup now rack' desk')
+  pub counts : Counts {T = Unit {0}} setup desk desk' (Ok tt) rack rack'
   pub only : OnlyAsked old now
   pub spared : IsSpared now.shape now.states
   pub others : WithinStay old now (λ l. ⊥)
@@ -134,13 +136,24 @@ stay-then a b c Other Last one two on l within = ⊎_elim (λ mid. ⊎_elim (λ 
 pub rose-from : (a b c : ℕ) → a ≤ b → Rose b c → Rose a c
 rose-from a b c le rose = omega (arith, le, rose)
 
+-- nothing was asked for yet
+pub on-start : (setup : Setup) (c : CourseSeen) (desk : DeskState) (rack : RackState) → rack.asks < 2 ^ 128 → IsSpared c.shape c.states → ReadingOn setup c c desk desk rack rack
+on-start setup c desk rack small spared = record {
+  leads = look-leads (moment setup c rack desk) c.first;
+  counts = counts-start setup desk rack tt small;
+  only = record { shape_same = refl; given_same = refl; first_same = refl; reads_same = refl; writes_same = refl };
+  spared = spared;
+  others = λ l within. inl within;
+}
+
 -- one more ask that settled no layer
 pub on-more :
     (setup : Setup) (i c new : CourseSeen) (di dc dn : DeskState) (ri rc rn : RackState) (s : ℕ) → next_sector c.states c.place ≡ Some s
-    → ReadingOn setup i c di dc ri rc → Leads (moment setup c rc dc) (moment setup new rn dn) → OnlyAsked c new → Went c new s None
-    → ReadingOn setup i new di dn ri rn
-on-more setup i c new di dc dn ri rc rn s next on leads only w = record {
+    → ReadingOn setup i c di dc ri rc → Leads (moment setup c rc dc) (moment setup new rn dn) → Counts {T = Option ℕ} setup dc dn (Ok None) rc rn → OnlyAsked c new
+    → Went c new s None → ReadingOn setup i new di dn ri rn
+on-more setup i c new di dc dn ri rc rn s next on leads counts only w = record {
   leads = leads-on (moment setup i ri di) (moment setup c rc dc) (moment setup new rn dn) on.leads leads;
+  counts = counts-as setup di dn ri rn None tt (counts-then setup di dc dn ri rc rn tt (Ok None) on.counts counts);
   only = only-then i c new on.only only;
   spared = went-spared c new s None next w on.spared;
   others = stay-then i c new (λ l. None ≡ Some l) (λ l. ⊥) on.others (went-stay c new s None next w) (λ l e. none-some l e);

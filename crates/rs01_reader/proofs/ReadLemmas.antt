@@ -1,5 +1,5 @@
 -- What is read back of a layer.
-use Rattle.std.proofs.Common.{◌≡◌, ℕ, ◌+◌, ◌-◌, ◌*◌, ◌/◌, ◌<◌, ◌≤◌, List, [], ◌++◌, length, take, drop, replicate, get_or, refl, sym, ap, subst, ◌∙◌, arith, cond}
+use Rattle.std.proofs.Common.{◌≡◌, ℕ, ◌+◌, ◌-◌, ◌*◌, ◌<◌, ◌≤◌, List, [], ◌++◌, length, take, get_or, refl, sym, ap, subst, ◌∙◌, arith, cond}
 use Rattle.std.specs.Prelude.{Bool, true, false, IsTrue}
 use Rattle.std.specs.List.{flat_map, range_with_len}
 use Rattle.std.proofs.lemmas.Bool.{cond-false, cond-true}
@@ -14,14 +14,12 @@ use Rattle.rs01_layers.proofs.BlockLemmas.{length-block}
 use Rattle.rs01_ecchead.specs.Erased.{block_in, known_of}
 use Rattle.rs01_ecchead.specs.Head.{fields_of}
 use Rattle.rs01_ecchead.specs.Opened.{opened_as}
-use Rattle.rs01_ecchead.specs.Pieces.{IsPiece}
 use Rattle.rs01_ecchead.specs.Recorded.{parity_in}
 use Rattle.rs01_ecchead.specs.Runs.{IsRun}
 use Rattle.rs01_ecchead.specs.declared.opened.Ecc.{Ecc}
-use Rattle.rs01_ecchead.proofs.Parts.{whole_piece}
 use Rattle.rs01_erase.specs.Correcting.{AgreeWhereHeld, blocks_in}
-use Rattle.rs01_repair.specs.Inputs.{IsInput, block_at, blocks_at, flags_at, parity_at, place_number, sums_at}
-use Rattle.rs01_repair.proofs.InputLemmas.{blocks_cut, length-block_at, same_where_held, size_fits}
+use Rattle.rs01_repair.specs.Inputs.{IsInput, blocks_at, flags_at, parity_at, place_number, sums_at}
+use Rattle.rs01_repair.proofs.InputLemmas.{blocks_cut, same_where_held, size_fits}
 use Rattle.rs01_repair.proofs.Joined.{parity_is}
 use Rattle.rs01_repair.proofs.Numbered.{one_more_piece}
 use Rattle.rs01_outside.specs.Causes.{Rose}

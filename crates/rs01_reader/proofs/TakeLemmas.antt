@@ -1,12 +1,12 @@
 -- Walks that take flags out.
 use Rattle.std.proofs.Common.{◌≡◌, ℕ, ◌+◌, ◌-◌, ◌%◌, ◌<◌, ◌≤◌, ⊎_elim, List, length, refl, sym, ap, ◌∙◌, arith}
-use Rattle.std.specs.Prelude.{Bool, true, false, ◌≢◌, ◌==◌, ◌||◌, if◌then◌else◌, cond, Option, Some, None}
+use Rattle.std.specs.Prelude.{Bool, true, false, ◌≢◌, ◌==◌, ◌||◌, if◌then◌else◌, Some, None}
 use Rattle.std.proofs.Math.ListN.{set}
 use Rattle.std.proofs.lemmas.List.{get_or_past, get_or-set_same, get_or-set_other, length-set}
 use Rattle.std.proofs.lemmas.Bool.{cases_eq, cases_lt, eq-eqb, ne_eqb}
 use Rattle.rs01_intervals.specs.Maximal.{flag_at}
 use Rattle.rs01_states.proofs.LayerLemmas.{other-layer, own-layer}
-use Rattle.rs01_reader.specs.Courses.{flag_after, lies_in}
+use Rattle.rs01_reader.specs.Courses.{flag_after}
 
 -- the flags but for those of a layer
 abbrev pub without : ℕ → ℕ → List Bool → ℕ → Bool

@@ -1,5 +1,5 @@
 -- A reader at a moment: which layers are settled, what is given of them, and when it may be asked.
-use Rattle.std.specs.Prelude.{ℕ, ◌≡◌, ◌≢◌, ◌*◌, ◌%◌, ◌<◌, ◌≤◌, Bool, true, false, Contains, IfSome, IsSomeAnd, IsTrue, List, length, Option, Some, None}
+use Rattle.std.specs.Prelude.{ℕ, ◌≡◌, ◌≢◌, ◌*◌, ◌%◌, ◌<◌, ◌≤◌, Bool, true, false, Contains, IsSomeAnd, IsTrue, List, length, Option, Some, None}
 use Rattle.std.specs.Option.{option_map}
 use Rattle.rs01_layers.specs.Layout.{file_size}
 use Rattle.rs01_layers.specs.declared.input.LayerInput.{LayerInput}

@@ -1,12 +1,11 @@
 -- What each step of a reader makes of it.
-use Rattle.std.specs.Prelude.{ℕ, ◌≡◌, ◌≢◌, ◌⊎◌, ◌++◌, ◌∷◌, [], Bool, false, true, Contains, IfErr, IfNone, IfOk, IfSome, IsTrue, List, Option, Some, None, Result, Ok, Err}
+use Rattle.std.specs.Prelude.{ℕ, ◌≡◌, ◌⊎◌, ◌++◌, ◌∷◌, [], Bool, false, true, Contains, IfErr, IfNone, IfOk, IfSome, Option, Some, None, Result, Ok, Err}
 use Rattle.rs01_layers.specs.declared.input.LayerInput.{LayerInput}
-use Rattle.rs01_layers.specs.declared.shape.Shape.{Shape}
 use Rattle.rs01_outside.specs.Causes.{Rose}
-use Rattle.rs01_outside.specs.DeskState.{DeskState}
+use Rattle.rs01_outside.specs.DeskState.{DeskState, WorksOn}
 use Rattle.rs01_rack.specs.Rack.{RackState}
 use Rattle.rs01_states.specs.Sparing.{is_within}
-use Rattle.rs01_states.specs.declared.state.State.{State}
+use Rattle.rs01_linear.specs.Lasting.{RackLasts}
 use Rattle.rs01_linear.specs.declared.asking.Asked.{Asked}
 use Rattle.rs01_turns.specs.Leads.{Leads}
 use Rattle.rs01_turns.specs.Turns.{NoneUnread}
@@ -26,6 +25,22 @@ stops_reading OutOfMemory = false
 abbrev pub is_read_stop : {T : Type 0} → Result T Stop → Bool
 is_read_stop (Ok value) = false
 is_read_stop (Err stop) = stops_reading stop
+
+-- the same of writing one
+abbrev pub stops_writing : Stop → Bool
+stops_writing ReadFault = false
+stops_writing WriteFault = true
+stops_writing OutOfMemory = false
+
+abbrev pub is_write_stop : {T : Type 0} → Result T Stop → Bool
+is_write_stop (Ok value) = false
+is_write_stop (Err stop) = stops_writing stop
+
+-- a step changed no other file than the image's, and a count of faults rose where the step ended by one of its kind, and
+-- else stays; the rack's count of asks rose by as many as the drives' lists of asks show more
+pub record Counts {T : Type 0} (setup : Setup) (desk desk' : DeskState) (result : Result T Stop) (rack rack' : RackState) : Type 0 where
+  pub works : WorksOn setup.image.now desk desk' (is_read_stop result) (is_write_stop result)
+  pub lasts : RackLasts rack rack'
 
 -- a sector was asked for, and a layer may have come within its bound by it
 pub record Went (old new : CourseSeen) (s : ℕ) (settled : Option ℕ) : Type 0 where
@@ -49,6 +64,7 @@ pub record WriteFailed (old new : DeskState) (stop : Stop) : Type 0 where
 -- how asking for the next sector ends
 pub record AsksNext (setup : Setup) (s : ℕ) (old new : CourseSeen) (desk desk' : DeskState) (result : Result (Option ℕ) Stop) (rack rack' : RackState) : Type 0 where
   pub leads : Leads (moment setup old rack desk) (moment setup new rack' desk')
+  pub counts : Counts setup desk desk' result rack rack'
   pub only : OnlyAsked old new
   pub went : IfOk result (Went old new s)
   pub halted : IfErr result (WriteFailed desk desk')
@@ -71,6 +87,7 @@ pub record Ends (old new : CourseSeen) : Type 0 where
 -- how reading on until a layer is settled ends
 pub record ReadsOn (setup : Setup) (old new : CourseSeen) (desk desk' : DeskState) (result : Result (Option ℕ) Stop) (rack rack' : RackState) : Type 0 where
   pub leads : Leads (moment setup old rack desk) (moment setup new rack' desk')
+  pub counts : Counts setup desk desk' result rack rack'
   pub only : OnlyAsked old new
   pub spared : IfOk result (λ settled. IsSpared new.shape new.states)
   pub settles : IfOk result (λ settled. IfSome settled (Settles setup old new desk desk' rack rack'))
@@ -97,6 +114,7 @@ pub record GaveUp (setup : Setup) (old new : CourseSeen) (desk' : DeskState) (ra
 -- how looking for the next settled layer ends
 pub record Picks (setup : Setup) (old new : CourseSeen) (desk desk' : DeskState) (result : Result (Option ℕ) Stop) (rack rack' : RackState) : Type 0 where
   pub leads : Leads (moment setup old rack desk) (moment setup new rack' desk')
+  pub counts : Counts setup desk desk' result rack rack'
   pub picked : IfOk result (λ found. IfSome found (Picked setup old new desk' rack'))
   pub none : IfOk result (λ found. IfNone found (GaveNone setup old new desk' rack'))
   pub halted : IfErr result (GaveUp setup old new desk' rack')
@@ -126,5 +144,6 @@ Ended setup old new desk' rack' (Err stop) = GaveUp setup old new desk' rack' st
 -- how asking a reader for the next input ends
 pub record Gives (setup : Setup) (old new : CourseSeen) (desk desk' : DeskState) (result : Result (Option LayerInput) Stop) (rack rack' : RackState) : Type 0 where
   pub leads : Leads (moment setup old rack desk) (moment setup new rack' desk')
+  pub counts : Counts setup desk desk' result rack rack'
   pub kept : (input : LayerInput) → Fits (moment setup old rack desk) input → Fits (moment setup new rack' desk') input
   pub ended : Ended setup old new desk' rack' result

@@ -224,6 +224,20 @@ impl Course {
     {
         &self.fates
     }
+
+    /// The desk's count of faults of reading at the start.
+    pub fn kept_reads(&self) -> u64
+        ensures { result ≡ self.now.kept_reads }
+    {
+        self.kept_reads
+    }
+
+    /// The desk's count of faults of writing at the start.
+    pub fn kept_writes(&self) -> u64
+        ensures { result ≡ self.now.kept_writes }
+    {
+        self.kept_writes
+    }
 }
 
 // The first layer from a number on that is within its bound.

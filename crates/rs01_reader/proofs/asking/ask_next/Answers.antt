@@ -1,8 +1,9 @@
-use Rattle.std.proofs.Common.{◌≡◌, ◌∙◌, ◌<◌, ap, arith, sym, subst, refl, ℕ}
-use Rattle.std.specs.Option.{option_map}
+use Rattle.std.proofs.Common.{◌≡◌, ap, arith, refl}
+use Rattle.std.specs.Prelude.{false, true}
 use Rattle.rs01_layers.specs.declared.extent.Extent.{Extent}
-use Rattle.rs01_linear.specs.Asking.{Asks, known_with}
 use Rattle.rs01_turns.proofs.Turning.{next-unread}
+use Rattle.rs01_outside.proofs.States.{works-changes}
+use Rattle.rs01_reader.proofs.CountLemmas.{works-start}
 use Rattle.rs01_reader.proofs.AskLemmas.{ask-goes-on, asks-medium, next-inside, only-asked, put-by, put-if-altered, put-if-unreadable}
 use Rattle.rs01_reader.proofs.asking.ask_next.Goals as goal
 
@@ -36,6 +37,7 @@ returns-in-Ok g c =
     record {
       leads = ask-goes-on setup c.args.course.now c.mark-settled.new.self _ _ _ _ c.args.sector block asked c.requires.ready c.requires.next c.mark-settled.ensures.after asks c.ask_sector-asked.ensures.cause c.ask_sector-asked.array_long
           (put-by setup c.args.course.now c.mark-settled.new.self _ _ _ _ c.extent-extent.result c.args.sector block asked c.put_sector.result c.in-Read.is c.extent-extent.ensures c.put_sector.ensures.only c.put_sector.ensures.put);
+      counts = record { works = works-changes c.args.setup.now.image.now _ _ false c.in-Ok.ensures.only; lasts = asks.lasts };
       only = only-asked c.args.course.now c.mark-settled.new.self c.args.sector asked c.mark-settled.ensures.after;
       went = record { asked = asked; course_is = c.mark-settled.ensures.after; settled_is = c.mark-settled.ensures.settled };
       halted = tt;
@@ -50,6 +52,7 @@ returns-in-Err g c =
     record {
       leads = ask-goes-on setup c.args.course.now c.mark-settled.new.self _ _ _ _ c.args.sector block asked c.requires.ready c.requires.next c.mark-settled.ensures.after asks c.ask_sector-asked.ensures.cause c.ask_sector-asked.array_long
           (put-by setup c.args.course.now c.mark-settled.new.self _ _ _ _ c.extent-extent.result c.args.sector block asked c.put_sector.result c.in-Read.is c.extent-extent.ensures c.put_sector.ensures.only c.put_sector.ensures.put);
+      counts = record { works = works-changes c.args.setup.now.image.now _ _ true c.in-Err.ensures.only; lasts = asks.lasts };
       only = only-asked c.args.course.now c.mark-settled.new.self c.args.sector asked c.mark-settled.ensures.after;
       went = tt;
       halted = record { stop_is = refl; rose = c.in-Err.ensures.only.rose refl };
@@ -64,6 +67,7 @@ returns-in-Unreadable g c =
     record {
       leads = ask-goes-on setup c.args.course.now c.mark-settled.new.self _ _ _ _ c.args.sector block asked c.requires.ready c.requires.next c.mark-settled.ensures.after asks c.ask_sector-asked.ensures.cause c.ask_sector-asked.array_long
           (put-if-unreadable _ _ c.args.sector block asked c.in-Unreadable.is refl);
+      counts = record { works = works-start c.args.setup.now.image.now _; lasts = asks.lasts };
       only = only-asked c.args.course.now c.mark-settled.new.self c.args.sector asked c.mark-settled.ensures.after;
       went = record { asked = asked; course_is = c.mark-settled.ensures.after; settled_is = c.mark-settled.ensures.settled };
       halted = tt;
@@ -78,6 +82,7 @@ returns-in-Altered g c =
     record {
       leads = ask-goes-on setup c.args.course.now c.mark-settled.new.self _ _ _ _ c.args.sector block asked c.requires.ready c.requires.next c.mark-settled.ensures.after asks c.ask_sector-asked.ensures.cause c.ask_sector-asked.array_long
           (put-if-altered _ _ c.args.sector block asked c.in-Altered.is refl);
+      counts = record { works = works-start c.args.setup.now.image.now _; lasts = asks.lasts };
       only = only-asked c.args.course.now c.mark-settled.new.self c.args.sector asked c.mark-settled.ensures.after;
       went = record { asked = asked; course_is = c.mark-settled.ensures.after; settled_is = c.mark-settled.ensures.settled };
       halted = tt;

@@ -1,3 +1,4 @@
+use Rattle.std.proofs.Common.{refl}
 use Rattle.rs01_reader.proofs.EndLemmas.{can-read, gives-fails, gives-input, gives-none, gives-stop, picked-of}
 use Rattle.rs01_reader.proofs.giving.next_input.Goals as goal
 
@@ -9,7 +10,7 @@ give_layer-requires g c =
 pub returns-in-Ok : goal.returns-in-Ok
 returns-in-Ok g c =
     gives-input c.args.setup.now c.args.course.now c.next_layer.new.course c.give_layer.new.course _ _ _ _ _ c.in-Ok-Some.field-0 c.in-Ok-Some.layer c.in-Ok.input _ c.requires
-    c.in-Ok-Some.field-0-is c.in-Ok-Some.ensures c.give_layer.ensures.reads c.in-Ok.ensures.gives
+    c.in-Ok-Some.field-0-is c.in-Ok-Some.ensures c.in-Ok.ensures.reads refl c.in-Ok.ensures.gives
 
 pub returns-in-Err-give_layer : goal.returns-in-Err-give_layer
 returns-in-Err-give_layer g c =

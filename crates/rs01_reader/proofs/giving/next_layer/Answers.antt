@@ -1,3 +1,5 @@
+use Rattle.std.specs.Prelude.{Some}
+use Rattle.rs01_reader.proofs.CountLemmas.{counts-start}
 use Rattle.rs01_reader.proofs.GiveLemmas.{looked-going, looked-leads, picks-none, picks-some, picks-stop, start-picks}
 use Rattle.rs01_reader.proofs.giving.next_layer.Goals as goal
 
@@ -7,6 +9,7 @@ read_on-requires g c = looked-going c.args.setup.now c.args.course.now c.next_se
 pub returns-in-Some : goal.returns-in-Some
 returns-in-Some g c = record {
   leads = looked-leads c.args.setup.now c.args.course.now c.next_settled.new.self _ _ _ c.in-Some.ensures.new_is;
+  counts = counts-start c.args.setup.now _ _ (Some c.in-Some.layer) c.args.rack.now.counted;
   picked = start-picks c.args.setup.now c.args.course.now c.next_settled.new.self _ _ c.in-Some.layer c.requires c.in-Some.ensures;
   none = tt;
   halted = tt;

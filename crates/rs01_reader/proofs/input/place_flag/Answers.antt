@@ -1,7 +1,7 @@
-use Rattle.std.proofs.Common.{◌∙◌, sym, arith}
+use Rattle.std.proofs.Common.{◌∙◌, sym}
 use Rattle.rs01_layers.specs.Layout.{sector_at}
 use Rattle.rs01_ecchead.specs.Head.{fields_of}
-use Rattle.rs01_repair.proofs.InputLemmas.{flag_at-sector, flag_at-padding, some_sector}
+use Rattle.rs01_repair.proofs.InputLemmas.{flag_at-sector, flag_at-padding}
 use Rattle.rs01_reader.specs.Inputs.{is_gone}
 use Rattle.rs01_reader.proofs.input.place_flag.Goals as goal
 

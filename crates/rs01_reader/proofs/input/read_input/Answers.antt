@@ -1,4 +1,4 @@
-use Rattle.std.proofs.Common.{◌∙◌, ◌-◌, ap, arith, length}
+use Rattle.std.proofs.Common.{◌∙◌, ap, arith, length}
 use Rattle.rs01_ecchead.specs.Head.{fields_of}
 use Rattle.rs01_repair.proofs.InputLemmas.{flags_are, length-flags_at, length-sums_at, parity_given, sums_are}
 use Rattle.rs01_reader.specs.Inputs.{is_gone}

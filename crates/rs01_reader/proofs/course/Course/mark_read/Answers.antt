@@ -1,4 +1,4 @@
-use Rattle.std.proofs.Common.{◌∙◌, ap, sym, subst, List, ℕ, ◌<◌}
+use Rattle.std.proofs.Common.{◌∙◌, ap, sym, subst, ℕ, ◌<◌}
 use Rattle.std.specs.Prelude.{IfSome, Option}
 use Rattle.std.proofs.Math.ListN.{set}
 use Rattle.rs01_layers.specs.declared.shape.Shape.{Shape}
