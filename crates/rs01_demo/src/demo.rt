@@ -29,8 +29,7 @@ fn protect<D: Desk>(
     parity: u32,
 ) -> Result<CreateReport, CreateRefusal>
     requires differ { image.now ≢ ecc.now }
-    requires least { 8 ≤ parity }
-    requires most { parity ≤ 100 }
+    requires parity { (8 ≤ parity) × (parity ≤ 100) }
     ensures works { made.Works ecc.now (D.state desk.old) (D.state desk.new) result }
     ensures answer { Answers image.now ecc.now parity (D.state desk.old) (D.state desk.new) result }
 {

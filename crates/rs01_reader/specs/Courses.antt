@@ -103,6 +103,14 @@ lies_in (Some layer) layers s = s % layers == layer
 abbrev pub flag_after : Option ℕ → (layers read : ℕ) → List Bool → ℕ → Bool
 flag_after settled layers read flags s = if (s == read) || lies_in settled layers s then false else flag_at flags s
 
+-- what taking sectors leaves unread: all but a layer's, and all but the read one and those of the layer that came within
+-- its bound by it
+abbrev pub TakesLayer : (layers layer : ℕ) → (old new : List Bool) → Type 0
+TakesLayer layers layer old new = (s : ℕ) → flag_at new s ≡ (if s % layers == layer then false else flag_at old s)
+
+abbrev pub TakesRead : Option ℕ → (layers read : ℕ) → (old new : List Bool) → Type 0
+TakesRead settled layers read old new = (s : ℕ) → flag_at new s ≡ flag_after settled layers read old s
+
 -- no layer from one to below another is within its bound
 abbrev pub NoneWithin : Option Shape → List State → ℕ → ℕ → Type 0
 NoneWithin shape states from past = (l : ℕ) → from ≤ l → l < past → is_within shape l states ≡ false

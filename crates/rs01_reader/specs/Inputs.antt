@@ -1,10 +1,10 @@
 -- What the correction of a settled layer is given: what is read back of the files.
-use Rattle.std.specs.Prelude.{ℕ, ◌≡◌, ◌-◌, ◌*◌, ◌<◌, ◌≤◌, if◌then◌else◌, Bool, IsSome, IsSomeAnd, IsTrue, List, [], length}
+use Rattle.std.specs.Prelude.{ℕ, ◌≡◌, ◌-◌, ◌*◌, ◌<◌, ◌≤◌, if◌then◌else◌, Bool, IfOk, IsSome, IsSomeAnd, IsTrue, List, [], Result, Vec, length}
 use Rattle.std.specs.List.{flat_map, range_with_len}
 use Rattle.rs01_layers.specs.Layout.{file_size, layers_of}
 use Rattle.rs01_layers.specs.declared.input.LayerInput.{LayerInput}
 use Rattle.rs01_lists.specs.Bytes.{padded}
-use Rattle.rs01_outside.specs.DeskState.{DeskState}
+use Rattle.rs01_outside.specs.DeskState.{DeskState, InFile}
 use Rattle.rs01_outside.specs.Files.{bytes_of}
 use Rattle.rs01_states.specs.Sparing.{is_open, state_of}
 use Rattle.rs01_ecchead.specs.Erased.{block_in, known_of}
@@ -40,6 +40,10 @@ kept_blocks ecc course file l = flat_map (kept_at ecc course file l) (range_with
 abbrev pub IsParityOf : Ecc → List ℕ → ℕ → List ℕ → Type 0
 IsParityOf ecc file l parity =
     file_size ecc.head.sectors ecc.head.parity ≤ length file → parity ≡ parity_at (parity_in file ecc.head.sectors ecc.head.parity) l
+
+-- where it was read, it is that of the named file
+abbrev pub ReadsParity : {E : Type 0} → DeskState → List ℕ → Ecc → ℕ → Result (Vec ℕ) E → Type 0
+ReadsParity desk name ecc l result = InFile desk name (λ file. IfOk result (λ parity. IsParityOf ecc file l parity.items))
 
 -- an input of a layer by what the image file and the error correction file have
 pub record IsBuilt (ecc : Ecc) (course : CourseSeen) (image name : List ℕ) (desk : DeskState) (input : LayerInput) : Type 0 where

@@ -1,8 +1,11 @@
 -- What each step of a reader makes of it.
-use Rattle.std.specs.Prelude.{ℕ, ◌≡◌, ◌⊎◌, ◌++◌, ◌∷◌, [], Bool, false, true, Contains, IfErr, IfNone, IfOk, IfSome, Option, Some, None, Result, Ok, Err}
+use Rattle.std.specs.Prelude.{ℕ, ◌≡◌, ◌*◌, ◌⊎◌, ◌++◌, ◌∷◌, [], Bool, false, true, Contains, IfErr, IfNone, IfOk, IfSome, IsTrue, List, take, Option, Some, None, Result, Ok, Err}
+use Rattle.rs01_layers.specs.Sectors.{length_of}
+use Rattle.rs01_layers.specs.declared.extent.Extent.{Extent}
 use Rattle.rs01_layers.specs.declared.input.LayerInput.{LayerInput}
 use Rattle.rs01_outside.specs.Causes.{Rose}
 use Rattle.rs01_outside.specs.DeskState.{DeskState, WorksOn}
+use Rattle.rs01_outside.specs.Files.{WritesAt}
 use Rattle.rs01_rack.specs.Rack.{RackState}
 use Rattle.rs01_states.specs.Sparing.{is_within}
 use Rattle.rs01_linear.specs.Lasting.{RackLasts}
@@ -15,6 +18,11 @@ use Rattle.rs01_reader.specs.Settled.{Done, Fits, Going, Halted, Settled, moment
 use Rattle.rs01_reader.specs.declared.setup.Setup.{Setup}
 use Rattle.rs01_reader.specs.declared.stop.Stop.{Stop}
 use Rattle.rs01_reader.specs.declared.stop.Stop.TheVariants.{OutOfMemory, ReadFault, WriteFault}
+
+-- a sector's own bytes of a block are put at its place of the named file, or were to be, where the desk tells
+abbrev pub PutsSector : {E : Type 0} → List ℕ → Extent → ℕ → List ℕ → (old new : DeskState) → Result Unit E → Type 0
+PutsSector image extent s block old new result =
+    IsTrue old.tells → WritesAt old.files new.files image (2048 * s) (take (length_of extent.sectors extent.last_bytes s) block) result
 
 -- whether a step ended since reading a file failed
 abbrev pub stops_reading : Stop → Bool

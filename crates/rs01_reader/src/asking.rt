@@ -1,13 +1,11 @@
 //! Asking for sectors by turns.
-ghost use Rattle.std.specs.Prelude.{◌≡◌, ◌*◌, ◌<◌, ◌≤◌, IsTrue, Some, is_err, take};
-ghost use Rattle.rs01_layers.specs.Sectors.{length_of};
+ghost use Rattle.std.specs.Prelude.{◌≡◌, ◌*◌, ◌<◌, ◌≤◌, Some, is_err};
 ghost use Rattle.rs01_outside.specs.DeskState.{OnlyChanges};
-ghost use Rattle.rs01_outside.specs.Files.{WritesAt};
 ghost use Rattle.rs01_linear.specs.Racks.{OnRack, seen_by};
 ghost use Rattle.rs01_turns.specs.Moments.{IsReady};
 ghost use Rattle.rs01_turns.specs.Turns.{next_sector};
 ghost use Rattle.rs01_reader.specs.Settled.{Going, moment};
-ghost use Rattle.rs01_reader.specs.Steps.{AsksNext, ReadsOn};
+ghost use Rattle.rs01_reader.specs.Steps.{AsksNext, PutsSector, ReadsOn};
 
 use crate::course::Course;
 use crate::setup::Setup;
@@ -27,9 +25,8 @@ fn put_sector<D: Desk>(
 ) -> Result<(), Failed>
     requires { sector < extent.now.sectors }
     ensures only { OnlyChanges image.now (D.state desk.old) (D.state desk.new) (is_err result) }
-    ensures put { let n = length_of extent.now.sectors extent.now.last_bytes sector in
-        IsTrue (D.state desk.old).tells → WritesAt (D.state desk.old).files
-        (D.state desk.new).files image.now (2048 * sector) (take n block.now) result }
+    ensures put { PutsSector image.now extent.now sector block.now
+        (D.state desk.old) (D.state desk.new) result }
 {
     let length = extent.length(sector) as usize;
     desk.write_at(image, 2048 * u64::from(sector), &block[..length])

@@ -1,5 +1,5 @@
 //! How far a reading by turns has come.
-ghost use Rattle.std.specs.Prelude.{◌≡◌, ◌<◌, ◌≤◌, ◌^◌, ◌++◌, ◌∷◌, [], IfErr, IfNone, IfOk, IfSome, OnOk, length, map, slice_get, true};
+ghost use Rattle.std.specs.Prelude.{◌≡◌, ◌<◌, ◌≤◌, ◌^◌, ◌++◌, ◌∷◌, [], IfErr, IfNone, IfOk, IfSome, OnOk, length, map, true};
 ghost use Rattle.rs01_states.specs.Sparing.{IsUnread, is_within, layer_count, newly_within, state_of};
 ghost use Rattle.rs01_linear.specs.declared.asking.Asked.TheVariants as asked;
 ghost use Rattle.rs01_turns.specs.Turns.{next_sector};
@@ -44,7 +44,6 @@ pub struct Course {
 }
 
 impl Model for Course {
-    ghost use Rattle.std.specs.Prelude.{List};
     ghost use Rattle.rs01_reader.specs.Courses.{CourseSeen, IsWhole};
 
     ghost Value = { CourseSeen };

@@ -11,7 +11,7 @@ ghost use Rattle.rs01_states.specs.Sparing.{is_open, state_of};
 ghost use Rattle.rs01_reader.specs.Inputs.{
   IsBuilt,
   IsLayerOf,
-  IsParityOf,
+  ReadsParity,
   is_gone,
   kept_at,
   kept_blocks,
@@ -205,8 +205,7 @@ fn read_parity<D: Desk>(
     requires { layer < layers_of ecc.now.head.sectors ecc.now.head.parity }
     ensures reads { OnlyReads (D.state desk.old) (D.state desk.new) (is_walk_fault result) }
     ensures long { IfOk result (λ parity. length parity.items ≡ 2048 * ecc.now.head.parity) }
-    ensures parity { InFile (D.state desk.old) name.now (λ file. IfOk result (λ parity.
-        IsParityOf ecc.now file layer parity.items)) }
+    ensures parity { ReadsParity (D.state desk.old) name.now ecc.now layer result }
 {
     let shape = ecc.shape();
     let size = 2048 * shape.parity() as usize;

@@ -1,8 +1,8 @@
 //! Taking what is no longer unread out of the runs of unread sectors.
-ghost use Rattle.std.specs.Prelude.{◌≡◌, ◌<◌, ◌≤◌, ◌%◌, ◌==◌, if◌then◌else◌, false, true, ℕ, IfSome, length, slice_set};
+ghost use Rattle.std.specs.Prelude.{◌≡◌, ◌<◌, false, true, ℕ, IfSome, length, slice_set};
 ghost use Rattle.rs01_intervals.specs.Maximal.{flag_at};
 ghost use Rattle.rs01_states.specs.Sparing.{is_unread, state_of};
-ghost use Rattle.rs01_reader.specs.Courses.{flag_after};
+ghost use Rattle.rs01_reader.specs.Courses.{TakesLayer, TakesRead};
 
 use rs01_intervals::Unread;
 use rs01_states::States;
@@ -21,8 +21,7 @@ fn take_layer(unread: &mut Unread, sectors: u32, layers: u32, layer: u32)
     requires layer { layer < layers }
     requires all { length unread.old ≡ sectors }
     ensures len { length unread.new ≡ length unread.old }
-    ensures flags { (s : ℕ) → flag_at unread.new s
-        ≡ (if s % layers == layer then false else flag_at unread.old s) }
+    ensures flags { TakesLayer layers layer unread.old unread.new }
 {
     let mut sector = layer as usize;
     while sector < sectors as usize {
@@ -36,8 +35,7 @@ pub fn take_read(unread: &mut Unread, sectors: u32, layers: u32, sector: u32, se
     requires layer { IfSome settled (λ layer. layer < layers) }
     requires all { length unread.old ≡ sectors }
     ensures len { length unread.new ≡ length unread.old }
-    ensures flags { (s : ℕ) → flag_at unread.new s
-        ≡ flag_after settled layers sector unread.old s }
+    ensures flags { TakesRead settled layers sector unread.old unread.new }
 {
     take_if_unread(unread, sector);
     match settled {

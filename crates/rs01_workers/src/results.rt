@@ -28,9 +28,7 @@ impl Results {
     pub(crate) fn of(inputs: Vec<LayerInput>, outs: Vec<LayerOut>, over: bool) -> Results
         requires paired { length outs.items ≡ length inputs.items }
         requires few { length inputs.items ≤ 64 }
-        ensures inputs { result.inputs ≡ inputs.items }
-        ensures outs { result.outs ≡ outs.items }
-        ensures over { result.over ≡ over }
+        ensures { result ≡ record { inputs = inputs.items; outs = outs.items; over = over } }
     {
         Results { inputs, outs, over }
     }
