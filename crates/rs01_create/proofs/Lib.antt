@@ -1,3 +1,4 @@
+mod Ends
 mod Givings
 mod Looks
 mod Makings

@@ -11,3 +11,4 @@ pub mod Leading
 pub mod Beginning
 pub mod Ending
 pub mod Stopping
+pub mod Creating

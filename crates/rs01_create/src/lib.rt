@@ -1,9 +1,10 @@
 //! Making the error correction file of an image.
 #![tactic(auto)]
 
+mod adding;
 mod beginning;
 mod course;
-mod create;
+mod creating;
 mod ending;
 mod found;
 mod giving;
@@ -12,10 +13,11 @@ mod maker;
 mod plan;
 mod refusal;
 mod settling;
+mod starting;
 mod survey;
 mod window;
 
-pub use create::create_one;
+pub use creating::{create, create_one};
 pub use refusal::CreateRefusal;
 
 #[cfg(test)]

@@ -1,9 +1,9 @@
 //! The files of worked images, and what stands after a fault.
-use crate::{CreateRefusal, create_one};
+use crate::{CreateRefusal, create, create_one};
 use md5::{Digest, Md5};
 use rs01_ecchead::{EccRefusal, HeadRefusal, open_ecc, sector_in};
 use rs01_fakes::{MemoryDesk, sample_desk};
-use rs01_outside::{Desk, Failed};
+use rs01_outside::{Desk, Failed, OpenGate};
 use rs01_report::CreateReport;
 use rs01_sums::marker;
 use std::alloc::{AllocError, Global};
@@ -30,7 +30,7 @@ fn desk_with(alloc: Global, image: &[u8]) -> Result<MemoryDesk, AllocError> {
     Ok(desk)
 }
 
-fn create(alloc: Global, desk: &mut MemoryDesk) -> Result<CreateReport, CreateRefusal> {
+fn created(alloc: Global, desk: &mut MemoryDesk) -> Result<CreateReport, CreateRefusal> {
     create_one(alloc, desk, "disc.iso", "disc.ecc", 32)
 }
 
@@ -140,7 +140,7 @@ fn sizes_and_parity(rt: HostRuntime) -> Result<(), Fail> {
     for (len, changes, sectors, layers, last_bytes, size, at, parity) in cases {
         let image = image_with(rt.alloc(), len, changes)?;
         let mut desk = desk_with(rt.alloc(), &image)?;
-        let report = create(rt.alloc(), &mut desk)?;
+        let report = created(rt.alloc(), &mut desk)?;
         assert_eq!(rt; (report.sectors, report.layers), (sectors, layers));
         assert_eq!(rt; (report.last_bytes, report.parity), (last_bytes, 32));
         let file = made(&desk);
@@ -155,11 +155,36 @@ fn sizes_and_parity(rt: HostRuntime) -> Result<(), Fail> {
     Ok(())
 }
 
+// Two layers, by one worker and by more.
+#[test]
+fn files_by_several_workers(rt: HostRuntime) -> Result<(), Fail> {
+    let image = image_with(rt.alloc(), 458_752, &[(2048, 1), (456_704, 1)])?;
+    let mut one = desk_with(rt.alloc(), &image)?;
+    let report = created(rt.alloc(), &mut one)?;
+    for workers in [1u32, 3] {
+        let mut desk = desk_with(rt.alloc(), &image)?;
+        let (name, ecc) = ("disc.iso", "disc.ecc");
+        let told = create(
+            &rt,
+            rt.alloc(),
+            &mut desk,
+            name,
+            ecc,
+            32,
+            workers,
+            &OpenGate,
+        )?;
+        assert_eq!(rt; told, report);
+        assert!(rt; made(&desk) == made(&one), "{workers} workers");
+    }
+    Ok(())
+}
+
 #[test]
 fn a_last_sector_of_one_byte(rt: HostRuntime) -> Result<(), Fail> {
     let image = image_with(rt.alloc(), 2049, &[(2048, b'a')])?;
     let mut desk = desk_with(rt.alloc(), &image)?;
-    let report = create(rt.alloc(), &mut desk)?;
+    let report = created(rt.alloc(), &mut desk)?;
     assert_eq!(rt;
         (report.sectors, report.layers, report.last_bytes),
         (2, 1, 1)
@@ -186,10 +211,10 @@ fn the_worked_pair(rt: HostRuntime) -> Result<(), Fail> {
 #[test]
 fn refused_images(rt: HostRuntime) -> Result<(), Fail> {
     let mut desk = MemoryDesk::new(rt.alloc());
-    assert_eq!(rt; create(rt.alloc(), &mut desk), Err(CreateRefusal::NoImage));
+    assert_eq!(rt; created(rt.alloc(), &mut desk), Err(CreateRefusal::NoImage));
     desk.put_file(rt.alloc(), "disc.iso", &[])?;
     assert_eq!(rt;
-        create(rt.alloc(), &mut desk),
+        created(rt.alloc(), &mut desk),
         Err(CreateRefusal::EmptyImage)
     );
     for (marked, want) in [(7u32, Some(CreateRefusal::Marker(7))), (8, None)] {
@@ -202,7 +227,7 @@ fn refused_images(rt: HostRuntime) -> Result<(), Fail> {
         desk.put_file(rt.alloc(), "disc.iso", &image)?;
         assert!(rt; desk.file("disc.ecc").is_none());
         assert!(rt;
-            create(rt.alloc(), &mut desk).err() == want,
+            created(rt.alloc(), &mut desk).err() == want,
             "marker of {marked}"
         );
     }
@@ -228,7 +253,7 @@ const ABC: [(usize, &[u8]); 10] = [
 #[test]
 fn abc(rt: HostRuntime) -> Result<(), Fail> {
     let mut desk = desk_with(rt.alloc(), b"abc")?;
-    let report = create(rt.alloc(), &mut desk)?;
+    let report = created(rt.alloc(), &mut desk)?;
     assert_eq!(rt;
         (report.sectors, report.layers, report.last_bytes),
         (1, 1, 3)
@@ -265,7 +290,7 @@ fn damaged_files(rt: HostRuntime) -> Result<(), Fail> {
     let mut desk = desk_with(rt.alloc(), &image_with(rt.alloc(), 2048, &[])?)?;
     let absent = open_ecc(rt.alloc(), &mut desk, "disc.ecc").err();
     assert!(rt; absent == Some(EccRefusal::NoFile));
-    create(rt.alloc(), &mut desk)?;
+    created(rt.alloc(), &mut desk)?;
     let flipped = Some(EccRefusal::Body {
         have: FLIPPED,
         want: WHOLE,
@@ -345,7 +370,7 @@ fn each_call_failing_in_turn(rt: HostRuntime) -> Result<(), Fail> {
             let mut desk = desk_with(rt.alloc(), b"abc")?;
             desk.fail_call(call);
             desk.keep_prefix(kept);
-            assert_eq!(rt; create(rt.alloc(), &mut desk), Err(want), "call {call}");
+            assert_eq!(rt; created(rt.alloc(), &mut desk), Err(want), "call {call}");
             assert!(rt; counts_one(&desk, want), "call {call}");
             assert_eq!(rt; made_len(&desk), left, "call {call}");
             assert!(rt; desk.file("disc.iso") == Some(b"abc".as_slice()));
@@ -357,7 +382,7 @@ fn each_call_failing_in_turn(rt: HostRuntime) -> Result<(), Fail> {
     }
     let mut desk = desk_with(rt.alloc(), b"abc")?;
     desk.fail_call(8);
-    assert!(rt; create(rt.alloc(), &mut desk).is_ok());
+    assert!(rt; created(rt.alloc(), &mut desk).is_ok());
     assert_eq!(rt; desk.size("disc.ecc"), Err(Failed));
     Ok(())
 }

@@ -6,7 +6,7 @@ use md5::{Digest, Md5};
 use rs01_ecchead::{Head, HeadRefusal, Which, write_head};
 use rs01_fakes::MemoryDesk;
 use rs01_lists::{push_zeros, zeroed};
-use rs01_outside::{Desk, Failed};
+use rs01_outside::{Desk, Failed, OpenGate};
 use rs01_report::{FixReport, Strange, Why};
 use rs01_sums::{crc32, marker};
 use std::alloc::{AllocError, Global};
@@ -59,7 +59,7 @@ fn change(desk: &mut MemoryDesk, name: &str, len: u64, at: u64, bytes: &[u8]) ->
     desk.cut(name, len).is_ok() && desk.write_at(name, at, bytes).is_ok()
 }
 
-fn fix(alloc: Global, desk: &mut MemoryDesk, cut: bool) -> Result<FixReport, FixRefusal> {
+fn repaired(alloc: Global, desk: &mut MemoryDesk, cut: bool) -> Result<FixReport, FixRefusal> {
     fix_one(alloc, desk, "disc.iso", "disc.ecc", cut)
 }
 
@@ -128,7 +128,7 @@ fn images_come_back(rt: HostRuntime) -> Result<(), Fail> {
     ] {
         let mut desk = protected(rt.alloc())?;
         assert!(rt; change(&mut desk, "disc.iso", row.len, row.at, row.bytes));
-        let report = fix(rt.alloc(), &mut desk, row.cut)?;
+        let report = repaired(rt.alloc(), &mut desk, row.cut)?;
         assert!(rt; report.restored.items() == row.restored);
         assert!(rt; report.lost.len() == 0 && report.strange.len() == 0);
         assert_eq!(rt; (report.surplus, report.cut), (row.surplus, row.was_cut));
@@ -142,7 +142,7 @@ fn images_come_back(rt: HostRuntime) -> Result<(), Fail> {
 fn markers_of_absent_sectors(rt: HostRuntime) -> Result<(), Fail> {
     let mut desk = protected(rt.alloc())?;
     assert!(rt; change(&mut desk, "disc.iso", 2053, 0, b""));
-    let report = fix(rt.alloc(), &mut desk, false)?;
+    let report = repaired(rt.alloc(), &mut desk, false)?;
     assert!(rt; report.restored.len() == 0 && report.strange.len() == 0);
     assert!(rt; report.lost.items() == [1u32, 2, 3, 4, 5, 6, 7, 8, 9].as_slice());
     let mut want = protected(rt.alloc())?;
@@ -178,7 +178,7 @@ fn strange_layers(rt: HostRuntime) -> Result<(), Fail> {
     for (at, lost, why) in cases {
         let mut desk = protected(rt.alloc())?;
         assert!(rt; change_ecc(&mut desk, at));
-        let report = fix(rt.alloc(), &mut desk, false)?;
+        let report = repaired(rt.alloc(), &mut desk, false)?;
         assert!(rt; report.strange.items() == [Strange { layer: 0, why }].as_slice());
         assert!(rt; report.lost.items() == lost && report.restored.len() == 0);
         assert!(rt; is_zeros(&desk, 20_480), "byte {at}");
@@ -214,16 +214,16 @@ fn refusals(rt: HostRuntime) -> Result<(), Fail> {
         let mut desk = protected(rt.alloc())?;
         assert!(rt; change(&mut desk, "disc.ecc", len, at, bytes));
         assert!(rt;
-            fix(rt.alloc(), &mut desk, false).err() == Some(want),
+            repaired(rt.alloc(), &mut desk, false).err() == Some(want),
             "{len} bytes"
         );
         assert!(rt; is_zeros(&desk, 20_480));
     }
     let mut desk = MemoryDesk::new(rt.alloc());
-    let absent = fix(rt.alloc(), &mut desk, false).err();
+    let absent = repaired(rt.alloc(), &mut desk, false).err();
     assert!(rt; absent == Some(FixRefusal::NoFile(Which::Ecc)));
     desk.put_file(rt.alloc(), "disc.ecc", &ecc_bytes(rt.alloc(), 10, 8)?)?;
-    let absent = fix(rt.alloc(), &mut desk, false).err();
+    let absent = repaired(rt.alloc(), &mut desk, false).err();
     assert!(rt; absent == Some(FixRefusal::NoFile(Which::Image)));
     assert!(rt; desk.file("disc.iso").is_none());
     Ok(())
@@ -243,7 +243,7 @@ fn each_call_failing_in_turn(rt: HostRuntime) -> Result<(), Fail> {
         again.put_file(rt.alloc(), "disc.iso", desk.file("disc.iso").unwrap_or(&[]))?;
         again.fail_call(call);
         again.keep_prefix(Some(100));
-        let refused = fix(rt.alloc(), &mut again, true).err();
+        let refused = repaired(rt.alloc(), &mut again, true).err();
         let reading = call < 16;
         let want = if reading {
             FixRefusal::ReadFault
@@ -254,7 +254,7 @@ fn each_call_failing_in_turn(rt: HostRuntime) -> Result<(), Fail> {
         assert!(rt;
             again.read_faults() == u64::from(reading) && again.write_faults() == u64::from(!reading)
         );
-        assert!(rt; fix(rt.alloc(), &mut again, true).is_ok());
+        assert!(rt; repaired(rt.alloc(), &mut again, true).is_ok());
         assert!(rt; is_zeros(&again, 20_480), "call {call}");
     }
     Ok(())
@@ -280,7 +280,7 @@ fn repair_three(rt: &impl Abort, alloc: Global, sectors: u32) -> Result<(), Fail
         let at = 2048 * u64::from(sector) + 2047;
         assert!(rt; desk.write_at("disc.iso", at, b"!").is_ok());
     }
-    let report = fix(alloc, &mut desk, false)?;
+    let report = repaired(alloc, &mut desk, false)?;
     assert!(rt;
         report.restored.items() == damaged.as_slice(),
         "{sectors} sectors"
@@ -297,6 +297,34 @@ fn damage_at_the_edge_of_a_window(rt: HostRuntime) -> Result<(), Fail> {
     repair_three(&rt, rt.alloc(), 9921)?;
     repair_three(&rt, rt.alloc(), 19_840)?;
     repair_three(&rt, rt.alloc(), 19_841)?;
+    Ok(())
+}
+
+// 65 layers, by one worker and by more.
+#[test]
+fn repairs_by_several_workers(rt: HostRuntime) -> Result<(), Fail> {
+    let damaged = [63u32, 64, 9920];
+    for workers in [1u32, 3] {
+        let mut desk = large(rt.alloc(), 9921)?;
+        for sector in damaged {
+            let at = 2048 * u64::from(sector);
+            assert!(rt; desk.write_at("disc.iso", at, b"!").is_ok());
+        }
+        let (image, ecc) = ("disc.iso", "disc.ecc");
+        let report = fix(
+            &rt,
+            rt.alloc(),
+            &mut desk,
+            image,
+            ecc,
+            false,
+            workers,
+            &OpenGate,
+        )?;
+        assert!(rt; report.restored.items() == damaged.as_slice());
+        assert!(rt; report.lost.len() == 0 && report.strange.len() == 0);
+        assert!(rt; is_zeros(&desk, 2048 * 9921), "{workers} workers");
+    }
     Ok(())
 }
 
@@ -376,14 +404,14 @@ fn calls_failing_in_two_windows(rt: HostRuntime) -> Result<(), Fail> {
         }
         desk.fail_call(3 + 67 * row);
         desk.keep_prefix(Some(100));
-        let refused = fix(rt.alloc(), &mut desk, false).err();
+        let refused = repaired(rt.alloc(), &mut desk, false).err();
         let want = match (desk.read_faults(), desk.write_faults()) {
             (0, 0) => None,
             (1, 0) => Some(FixRefusal::ReadFault),
             _ => Some(FixRefusal::WriteFault),
         };
         assert!(rt; refused == want, "row {row}");
-        assert!(rt; fix(rt.alloc(), &mut desk, false).is_ok());
+        assert!(rt; repaired(rt.alloc(), &mut desk, false).is_ok());
         assert!(rt; is_zeros(&desk, 2048 * 9921), "row {row}");
     }
     Ok(())

@@ -1,0 +1,98 @@
+//! Adding the parity of all layers window by window, on one thread and by several.
+ghost use Rattle.std.specs.Prelude.{◌≡◌, ◌<◌};
+ghost use Rattle.rs01_create.specs.Creating.{AreAdded};
+ghost use Rattle.rs01_create.specs.Making.{AtWork, faults_of, moment};
+ghost use Rattle.rs01_create.specs.Stopping.{stop_told};
+
+use crate::course::{Course, Faults};
+use crate::maker::Maker;
+use crate::plan::Plan;
+use crate::refusal::CreateRefusal;
+use rs01_encode::EncodeTask;
+use rs01_outside::{Desk, Gate};
+use rs01_workers::{WindowStop, work_all, work_all_one};
+use std::alloc::Global;
+use std::sync::Wait;
+use std::thread::Threads;
+
+// Why the windows were given up, as it is told here.
+fn stop_of(why: WindowStop<CreateRefusal>) -> CreateRefusal
+    ensures { result ≡ stop_told why }
+{
+    match why {
+        WindowStop::Stopped(refusal) => refusal,
+        WindowStop::OutOfMemory => CreateRefusal::OutOfMemory,
+    }
+}
+
+// Adds the parity of all layers to a file that was begun, a window of up to 64 layers at a time.
+pub fn add_layers_one<D: Desk>(
+    alloc: Global,
+    desk: &mut D,
+    image: &str,
+    ecc: &str,
+    plan: &Plan,
+    task: &EncodeTask,
+    course: &mut Course,
+) -> Result<(), CreateRefusal>
+    requires work { let state = D.state desk.old in
+        AtWork (moment state image.now ecc.now plan.now (faults_of state) course.old) }
+    requires none { course.old.next ≡ course.old.first }
+    ensures { AreAdded image.now ecc.now plan.now
+        (D.state desk.old) course.old (D.state desk.new) course.new result }
+{
+    let kept = Faults {
+        reads: desk.read_faults(),
+        writes: desk.write_faults(),
+    };
+    let mut maker = Maker {
+        desk,
+        image,
+        ecc,
+        plan: *plan,
+        kept,
+        course,
+    };
+    match work_all_one(alloc, task, &mut maker) {
+        Ok(()) => Ok(()),
+        Err(why) => Err(stop_of(why)),
+    }
+}
+
+// The same by so many workers.
+pub fn add_layers<R: Threads + Wait + Sync, D: Desk, G: Gate>(
+    rt: &R,
+    alloc: Global,
+    desk: &mut D,
+    image: &str,
+    ecc: &str,
+    plan: &Plan,
+    task: &EncodeTask,
+    course: &mut Course,
+    workers: u32,
+    gate: &G,
+) -> Result<(), CreateRefusal>
+    requires some { 0 < workers }
+    requires work { let state = D.state desk.old in
+        AtWork (moment state image.now ecc.now plan.now (faults_of state) course.old) }
+    requires none { course.old.next ≡ course.old.first }
+    ensures { AreAdded image.now ecc.now plan.now
+        (D.state desk.old) course.old (D.state desk.new) course.new result }
+{
+    let kept = Faults {
+        reads: desk.read_faults(),
+        writes: desk.write_faults(),
+    };
+    let mut maker = Maker {
+        desk,
+        image,
+        ecc,
+        plan: *plan,
+        kept,
+        course,
+    };
+    match work_all(rt, alloc, task, &mut maker, workers, gate) {
+        Ok(()) => Ok(()),
+        Err(why) => Err(stop_of(why)),
+    }
+}

@@ -1,0 +1,49 @@
+//! What is done before the layers are worked: looking at the image, and beginning its file.
+ghost use Rattle.std.specs.Prelude.{◌≢◌, ◌≤◌, Err, IfErr, IfOk};
+ghost use Rattle.rs01_create.specs.Creating.{IsCreate, IsStarted};
+
+use crate::beginning::begin;
+use crate::course::Course;
+use crate::found::Found;
+use crate::look::look;
+use crate::refusal::CreateRefusal;
+use rs01_encode::EncodeTask;
+use rs01_outside::{Desk, Failed};
+use std::alloc::Global;
+
+/// What the work on the layers starts from.
+#[derive(Drop)]
+pub struct Start {
+    pub found: Found,
+    pub task: EncodeTask,
+    pub course: Course,
+}
+
+// Looks at an image, and begins its file.
+pub fn look_and_begin<D: Desk>(
+    alloc: Global,
+    desk: &mut D,
+    image: &str,
+    ecc: &str,
+    parity: u32,
+) -> Result<Start, CreateRefusal>
+    requires differ { image.now ≢ ecc.now }
+    requires parity { (8 ≤ parity) × (parity ≤ 100) }
+    ensures started { IfOk result (λ start. IsStarted image.now ecc.now parity
+        (D.state desk.old) (D.state desk.new) start.found start.course) }
+    ensures refused { IfErr result (λ why. IsCreate image.now ecc.now parity
+        (D.state desk.old) (D.state desk.new) (Err why)) }
+{
+    match look(alloc, desk, image, parity) {
+        Ok(found) => {
+            let Ok(task) = EncodeTask::new(alloc, parity) else {
+                return Err(CreateRefusal::OutOfMemory);
+            };
+            match begin(alloc, desk, ecc, &found.sums) {
+                Ok(course) => Ok(Start { found, task, course }),
+                Err(Failed) => Err(CreateRefusal::WriteFault),
+            }
+        }
+        Err(why) => Err(why),
+    }
+}
