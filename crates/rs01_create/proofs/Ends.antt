@@ -88,7 +88,7 @@ pub refused : (image ecc : List ℕ) (r : ℕ) (old new : DeskState) (why : Crea
 refused image ecc r old new why reads looks many never = record {
   works = subst (λ b. WorksOn ecc old new b (is_write_fault {T = CreateReport} (Err why))) (same_read Found CreateReport why)
       (subst (λ b. WorksOn ecc old new (is_read_fault {T = Found} (Err why)) b) (sym (not_writing why never))
-        (works-reads ecc old new (is_read_fault {T = Found} (Err why)) reads));
+      (works-reads ecc old new (is_read_fault {T = Found} (Err why)) reads));
   answer = refused_answer image ecc r old new why looks reads.unchanged never;
   many = λ n e. let h : why ≡ TooManySectors n = cc in many n (ap (λ (w : CreateRefusal). let r : Result Found CreateRefusal = Err w in r) h);
 }
@@ -125,7 +125,7 @@ ends image ecc r old seen new found result reads accepts parity works of makes =
   works = works-then ecc old seen new (is_read_fault result) (is_write_fault result) (works-reads ecc old seen false reads) works;
   answer = λ t. created image ecc r old.files new.files result of (accepts t).accepted
       (subst (λ (k : ℕ). Makes (bytes_of old.files image) k ecc old.files new.files result) parity
-        (subst (λ (f : Files). Makes (bytes_of f image) found.plan.shape.parity ecc f new.files result) (reads.unchanged t) (makes (subst IsTrue (sym reads.tells) t))));
+      (subst (λ (f : Files). Makes (bytes_of f image) found.plan.shape.parity ecc f new.files result) (reads.unchanged t) (makes (subst IsTrue (sym reads.tells) t))));
   many = λ n e. absurd (subst (λ (a : Result CreateReport CreateRefusal). IsOfMaking a) e of);
 }
 
@@ -190,11 +190,11 @@ after_stop {T} image ecc r old now found course added why is given =
     (counted image ecc w.start now found.plan w.begun course _ _ w.work.leads stops.counts) in
     ends image ecc r old s.seen now found (Err why) s.reads s.accepts s.parity
     (subst (λ b. WorksOn ecc s.seen now b (is_write_fault {T = CreateReport} (Err why))) (same_read (Unit {0}) CreateReport why)
-      (subst (λ b. WorksOn ecc s.seen now (is_read_fault {T = Unit {0}} (Err why)) b) (same_write (Unit {0}) CreateReport why) works))
+    (subst (λ b. WorksOn ecc s.seen now (is_read_fault {T = Unit {0}} (Err why)) b) (same_write (Unit {0}) CreateReport why) works))
     (same_making (Unit {0}) CreateReport why stops.of_making)
     (λ t.
-      let over = between image ecc s.seen w.start now found.plan w.begun course s.changes w.work.leads t in
-      headless_begun _ _ _ (stops.headless over.tells))
+    let over = between image ecc s.seen w.start now found.plan w.begun course s.changes w.work.leads t in
+    headless_begun _ _ _ (stops.headless over.tells))
 
 -- all were worked: the body stands, and then the header was put in front of it, or that failed
 whole : (image ecc : List ℕ) (r : ℕ) (old now : DeskState) (found : Found) (course : Course) {T : Type 0} (value : T)
@@ -211,8 +211,8 @@ works_added image ecc r old now new found course {T} value failed w changes =
     let s = w.started in
     works-then ecc s.seen now new false failed
     (works-then ecc s.seen w.start now false false (works-changes ecc s.seen w.start false s.changes)
-      (counted image ecc w.start now found.plan w.begun course false false w.work.leads
-        (quiet (moment now image ecc found.plan (faults_of w.start) course) w.work.finished.at_work.quiet)))
+    (counted image ecc w.start now found.plan w.begun course false false w.work.leads
+    (quiet (moment now image ecc found.plan (faults_of w.start) course) w.work.finished.at_work.quiet)))
     (works-changes ecc now new failed changes)
 
 pub after_end : {T : Type 0} (image ecc : List ℕ) (r : ℕ) (old now new : DeskState) (found : Found) (course : Course) (added : Result T CreateRefusal) (value : T) (report : CreateReport)
@@ -223,9 +223,9 @@ after_end {T} image ecc r old now new found course added value report is given c
     let s = w.started in
     ends image ecc r old s.seen new found (Ok report) s.reads s.accepts s.parity (works_added image ecc r old now new found course value false w changes) tt
     (λ t.
-      let over = between image ecc s.seen w.start now found.plan w.begun course s.changes w.work.leads t in
-      let last = tells over.tells (bytes_of s.seen.files image) (whole image ecc r old now found course value w t) in
-      (ended ecc _ s.seen now new over last.0, last.1))
+    let over = between image ecc s.seen w.start now found.plan w.begun course s.changes w.work.leads t in
+    let last = tells over.tells (bytes_of s.seen.files image) (whole image ecc r old now found course value w t) in
+    (ended ecc _ s.seen now new over last.0, last.1))
 
 pub after_end_failed : {T : Type 0} (image ecc : List ℕ) (r : ℕ) (old now new : DeskState) (found : Found) (course : Course) (added : Result T CreateRefusal) (value : T) (why : Failed)
     → added ≡ Ok value → IsWorked image ecc r old now found course added → OnlyChanges ecc now new true
@@ -235,5 +235,5 @@ after_end_failed {T} image ecc r old now new found course added value why is giv
     let s = w.started in
     ends image ecc r old s.seen new found (Err WriteFault) s.reads s.accepts s.parity (works_added image ecc r old now new found course value true w changes) tt
     (λ t.
-      let over = between image ecc s.seen w.start now found.plan w.begun course s.changes w.work.leads t in
-      tells over.tells (bytes_of s.seen.files image) (whole image ecc r old now found course value w t) (s.seen.files ecc))
+    let over = between image ecc s.seen w.start now found.plan w.begun course s.changes w.work.leads t in
+    tells over.tells (bytes_of s.seen.files image) (whole image ecc r old now found course value w t) (s.seen.files ecc))

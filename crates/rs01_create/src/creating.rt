@@ -58,10 +58,15 @@ pub fn create_one<D: Desk>(
     ensures { IsCreate image.now ecc.now parity (D.state desk.old) (D.state desk.new) result }
 {
     match look_and_begin(alloc, desk, image, ecc, parity) {
-        Ok(Start { found, task, course }) => {
+        Ok(
+            Start {
+                found,
+                task,
+                course,
+            },
+        ) => {
             let mut course = course;
-            let added =
-                add_layers_one(alloc, desk, image, ecc, &found.plan, &task, &mut course);
+            let added = add_layers_one(alloc, desk, image, ecc, &found.plan, &task, &mut course);
             finish(desk, ecc, &found, course, added)
         }
         Err(why) => Err(why),
@@ -88,11 +93,27 @@ pub fn create<R: Threads + Wait + Sync, D: Desk, G: Gate>(
     ensures { IsCreate image.now ecc.now parity (D.state desk.old) (D.state desk.new) result }
 {
     match look_and_begin(alloc, desk, image, ecc, parity) {
-        Ok(Start { found, task, course }) => {
+        Ok(
+            Start {
+                found,
+                task,
+                course,
+            },
+        ) => {
             let mut course = course;
             let plan = &found.plan;
-            let added =
-                add_layers(rt, alloc, desk, image, ecc, plan, &task, &mut course, workers, gate);
+            let added = add_layers(
+                rt,
+                alloc,
+                desk,
+                image,
+                ecc,
+                plan,
+                &task,
+                &mut course,
+                workers,
+                gate,
+            );
             finish(desk, ecc, &found, course, added)
         }
         Err(why) => Err(why),

@@ -40,7 +40,11 @@ pub fn look_and_begin<D: Desk>(
                 return Err(CreateRefusal::OutOfMemory);
             };
             match begin(alloc, desk, ecc, &found.sums) {
-                Ok(course) => Ok(Start { found, task, course }),
+                Ok(course) => Ok(Start {
+                    found,
+                    task,
+                    course,
+                }),
                 Err(Failed) => Err(CreateRefusal::WriteFault),
             }
         }

@@ -4,7 +4,7 @@ ghost use Rattle.rs01_table.specs.Seats.{id_of, AreFree, IsFree, IsWorkerOf};
 
 use super::*;
 use rs01_fakes::{Numbering, numbered_layer};
-use rs01_layers::LayerOut;
+use rs01_layers::{LayerOut, LayerTask};
 use rs01_window::PostRefusal;
 use std::alloc::{AllocError, Global};
 use std::test::Fail;

@@ -10,7 +10,7 @@ returns-in-Ok-begin-clause-started g c =
     is_started c.args.image.now c.args.ecc.now c.args.parity (g.D.Desk.state c.args.desk.now) (g.D.Desk.state c.look.new.desk) (g.D.Desk.state c.begin.new.desk)
     c.in-Ok.found c.in-Ok-begin.course c.requires.differ c.in-Ok.ensures.reads c.in-Ok.ensures.answer c.in-Ok.ensures.parity c.in-Ok-begin.ensures.changes
     (λ t. subst (λ (xs : List ℕ). Becomes c.args.ecc.now (zeros 4096 ++ xs) (g.D.Desk.state c.look.new.desk).files (g.D.Desk.state c.begin.new.desk).files) c.deref.ensures.value
-      (c.in-Ok-begin.ensures.begun t))
+    (c.in-Ok-begin.ensures.begun t))
     (subst (λ (xs : List ℕ). IsStart xs c.in-Ok-begin.course) c.deref.ensures.value c.in-Ok-begin.ensures.start)
 
 pub returns-in_default-clause-refused : goal.returns-in_default-clause-refused
