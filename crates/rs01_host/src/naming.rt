@@ -86,8 +86,10 @@ impl Found {
 // What the system answered, with `None` where it says that there is no such file.
 pub(crate) fn present<T>(outcome: io::Result<T>) -> io::Result<Option<T>>
     ensures value { IfOk outcome (λ value. result ≡ Ok (Some value)) }
-    ensures absent { IfErr outcome (λ e. error_kind e ≡ ErrorKind.NotFound → result ≡ Ok None) }
-    ensures error { IfErr outcome (λ e. error_kind e ≢ ErrorKind.NotFound → result ≡ Err e) }
+    ensures absent { IfErr outcome (λ error.
+        error_kind error ≡ ErrorKind.NotFound → result ≡ Ok None) }
+    ensures error { IfErr outcome (λ error.
+        error_kind error ≢ ErrorKind.NotFound → result ≡ Err error) }
 {
     match outcome {
         Ok(value) => Ok(Some(value)),
