@@ -1,5 +1,6 @@
 -- What the correction of a settled layer is given: what is read back of the files.
-use Rattle.std.specs.Prelude.{ℕ, ◌≡◌, ◌-◌, ◌*◌, ◌<◌, ◌≤◌, if◌then◌else◌, Bool, IfOk, IsSome, IsSomeAnd, IsTrue, List, [], Result, Vec, length}
+use Rattle.std.specs.Prelude.{ℕ, ◌≡◌, ◌-◌, ◌*◌, ◌<◌, ◌≤◌, if◌then◌else◌, Bool, IfOk, IsSome, IsSomeAnd, IsTrue, List, [], Result, length}
+use Rattle.std.specs.Global.{Vec}
 use Rattle.std.specs.List.{flat_map, range_with_len}
 use Rattle.rs01_layers.specs.Layout.{file_size, layers_of}
 use Rattle.rs01_layers.specs.declared.input.LayerInput.{LayerInput}
