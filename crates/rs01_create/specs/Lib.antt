@@ -10,5 +10,4 @@ pub mod Settling
 pub mod Leading
 pub mod Beginning
 pub mod Ending
-pub mod Stopping
 pub mod Creating

@@ -1,8 +1,6 @@
 //! Adding the parity of all layers window by window, on one thread and by several.
 ghost use Rattle.std.specs.Prelude.{◌≡◌, ◌<◌};
-ghost use Rattle.rs01_create.specs.Creating.{AreAdded};
-ghost use Rattle.rs01_create.specs.Making.{AtWork, faults_of, moment};
-ghost use Rattle.rs01_create.specs.Stopping.{stop_told};
+ghost use Rattle.rs01_create.specs.Creating.{AreAdded, CanAdd};
 
 use crate::course::{Course, Faults};
 use crate::maker::Maker;
@@ -10,20 +8,10 @@ use crate::plan::Plan;
 use crate::refusal::CreateRefusal;
 use rs01_encode::EncodeTask;
 use rs01_outside::{Desk, Gate};
-use rs01_workers::{WindowStop, work_all, work_all_one};
+use rs01_workers::{work_all, work_all_one};
 use std::alloc::Global;
 use std::sync::Wait;
 use std::thread::Threads;
-
-// Why the windows were given up, as it is told here.
-fn stop_of(why: WindowStop<CreateRefusal>) -> CreateRefusal
-    ensures { result ≡ stop_told why }
-{
-    match why {
-        WindowStop::Stopped(refusal) => refusal,
-        WindowStop::OutOfMemory => CreateRefusal::OutOfMemory,
-    }
-}
 
 // Adds the parity of all layers to a file that was begun, a window of up to 64 layers at a time.
 pub fn add_layers_one<D: Desk>(
@@ -35,8 +23,7 @@ pub fn add_layers_one<D: Desk>(
     task: &EncodeTask,
     course: &mut Course,
 ) -> Result<(), CreateRefusal>
-    requires work { let state = D.state desk.old in
-        AtWork (moment state image.now ecc.now plan.now (faults_of state) course.old) }
+    requires work { CanAdd image.now ecc.now plan.now (D.state desk.old) course.old }
     requires none { course.old.next ≡ course.old.first }
     ensures { AreAdded image.now ecc.now plan.now
         (D.state desk.old) course.old (D.state desk.new) course.new result }
@@ -55,7 +42,7 @@ pub fn add_layers_one<D: Desk>(
     };
     match work_all_one(alloc, task, &mut maker) {
         Ok(()) => Ok(()),
-        Err(why) => Err(stop_of(why)),
+        Err(why) => Err(why.stop_or(CreateRefusal::OutOfMemory)),
     }
 }
 
@@ -73,8 +60,7 @@ pub fn add_layers<R: Threads + Wait + Sync, D: Desk, G: Gate>(
     gate: &G,
 ) -> Result<(), CreateRefusal>
     requires some { 0 < workers }
-    requires work { let state = D.state desk.old in
-        AtWork (moment state image.now ecc.now plan.now (faults_of state) course.old) }
+    requires work { CanAdd image.now ecc.now plan.now (D.state desk.old) course.old }
     requires none { course.old.next ≡ course.old.first }
     ensures { AreAdded image.now ecc.now plan.now
         (D.state desk.old) course.old (D.state desk.new) course.new result }
@@ -93,6 +79,6 @@ pub fn add_layers<R: Threads + Wait + Sync, D: Desk, G: Gate>(
     };
     match work_all(rt, alloc, task, &mut maker, workers, gate) {
         Ok(()) => Ok(()),
-        Err(why) => Err(stop_of(why)),
+        Err(why) => Err(why.stop_or(CreateRefusal::OutOfMemory)),
     }
 }

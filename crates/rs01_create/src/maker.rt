@@ -44,7 +44,7 @@ impl<'a, D: Desk> Filler for Maker<'a, D> {
 
     ghost halted = { λ m. HasStopped (moment (D.state m.desk.now) m.image.now m.ecc.now m.plan m.kept m.course.now) };
 
-    ghost leads_same = { λ f. (refl, refl, leads-same (moment (D.state f.desk.now) f.image.now f.ecc.now f.plan f.kept f.course.now)) };
+    ghost leads_same = { λ f. (refl, refl, leads-same _) };
 
     ghost leads_on = { λ f g h a b. (b.0 ∙ a.0, b.1 ∙ a.1, leads-on _ _ _ a.2 b.2) };
 

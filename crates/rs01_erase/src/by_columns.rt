@@ -91,7 +91,8 @@ fn correct_places(
     if erased.is_empty() {
         return test_layer(syndromes, alloc, input, erased, input.data_.items());
     }
-    let mut blocks = input.data_.items().to_vec(alloc)?;
+    let mut blocks = Vec::with_capacity(alloc, input.data_.len())?;
+    blocks.extend_from_slice(input.data_.items())?;
     fill_and_test(syndromes, alloc, input, erased, blocks.as_mut_slice())
 }
 

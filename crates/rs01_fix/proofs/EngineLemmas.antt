@@ -29,11 +29,6 @@ begins found image ecc state course differ is = record {
   ready = ready_new found image ecc state course.batch 0 is.next is.first is.parts is.parity (omega arith);
 }
 
--- by counts that were read
-pub begins_as : (found : Found) (reads writes reads' writes' : ℕ) (course : Course) → reads' ≡ reads → writes' ≡ writes → Begins found reads' writes' course
-    → Begins found reads writes course
-begins_as found reads writes reads' writes' course r w is = subst (λ n. Begins found n writes course) r (subst (λ n. Begins found reads' n course) w is)
-
 pub begins_none : (found : Found) (reads writes : ℕ) (course : Course) → Begins found reads writes course → given course ≡ []
 begins_none found reads writes course is = λ i. range_with_len (is.start i) (is.next i - is.start i)
 

@@ -5,7 +5,7 @@ pub mod FixedLemmas
 mod StandLemmas
 mod CutLemmas
 mod ToldLemmas
-mod FileLemmas
+pub mod FileLemmas
 pub mod ComesBack
 mod GoesOn
 mod Later

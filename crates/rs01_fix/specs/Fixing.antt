@@ -3,8 +3,6 @@
 use Rattle.std.specs.Prelude.{ℕ, ◌≡◌, Bool, false, List, Result, Ok, IfErr, OnOk}
 use Rattle.rs01_outside.specs.DeskState.{DeskState, OnlyReads}
 use Rattle.rs01_report.specs.declared.reports.FixReport.{FixReport}
-use Rattle.rs01_workers.specs.declared.results.WindowStop.{WindowStop}
-use Rattle.rs01_workers.specs.declared.results.WindowStop.TheVariants as window
 use Rattle.rs01_repair.specs.declared.found.Found.{Found}
 use Rattle.rs01_fix.specs.ComesBack.{BringsBack}
 use Rattle.rs01_fix.specs.Outcome.{FixesOn, TellsTwo, Works, WritesLast}
@@ -12,7 +10,6 @@ use Rattle.rs01_fix.specs.Steps.{IsFoundOn}
 use Rattle.rs01_fix.specs.Windows.{Begins, GoesOn, HasStopped, IsFinished}
 use Rattle.rs01_fix.specs.declared.course.Course.{Course}
 use Rattle.rs01_fix.specs.declared.refusal.FixRefusal.{FixRefusal}
-use Rattle.rs01_fix.specs.declared.refusal.FixRefusal.TheVariants.{OutOfMemory}
 
 -- the image file, what is told of it, and the refusals
 pub record IsFix (image ecc : List ℕ) (cut : Bool) (old new : DeskState) (result : Result FixReport FixRefusal) : Type 0 where
@@ -26,11 +23,6 @@ pub record IsFix (image ecc : List ℕ) (cut : Bool) (old new : DeskState) (resu
   pub write_fault_last : WritesLast image ecc cut old result
   -- a refusal that tells two values tells different ones
   pub differ : IfErr result TellsTwo
-
--- why the windows were given up, as it is told of a repair
-abbrev pub stop_told : WindowStop FixRefusal → FixRefusal
-stop_told (window.Stopped why) = why
-stop_told window.OutOfMemory = OutOfMemory
 
 -- the two files were found, and no layer was given yet
 pub record IsStarted (image ecc : List ℕ) (old now : DeskState) (found : Found) (course : Course) : Type 0 where

@@ -1,6 +1,6 @@
 //! Working the layers of an image window by window, on one thread and by several.
 ghost use Rattle.std.specs.Prelude.{◌≡◌, ◌<◌, []};
-ghost use Rattle.rs01_fix.specs.Fixing.{AreWorked, stop_told};
+ghost use Rattle.rs01_fix.specs.Fixing.{AreWorked};
 ghost use Rattle.rs01_fix.specs.Windows.{IsGoing, given};
 
 use crate::course::Course;
@@ -8,20 +8,10 @@ use crate::refusal::FixRefusal;
 use crate::windows::Repairing;
 use rs01_outside::{Desk, Gate};
 use rs01_repair::Found;
-use rs01_workers::{WindowStop, work_all, work_all_one};
+use rs01_workers::{work_all, work_all_one};
 use std::alloc::Global;
 use std::sync::Wait;
 use std::thread::Threads;
-
-// Why the windows were given up, as it is told here.
-fn stop_of(why: WindowStop<FixRefusal>) -> FixRefusal
-    ensures { result ≡ stop_told why }
-{
-    match why {
-        WindowStop::Stopped(refusal) => refusal,
-        WindowStop::OutOfMemory => FixRefusal::OutOfMemory,
-    }
-}
 
 // Repairs the layers window by window, on the caller's thread.
 pub fn work_windows_one<D: Desk>(
@@ -46,7 +36,7 @@ pub fn work_windows_one<D: Desk>(
     };
     match work_all_one(alloc, &found.task, &mut repairing) {
         Ok(()) => Ok(()),
-        Err(why) => Err(stop_of(why)),
+        Err(why) => Err(why.stop_or(FixRefusal::OutOfMemory)),
     }
 }
 
@@ -77,6 +67,6 @@ pub fn work_windows<R: Threads + Wait + Sync, D: Desk, G: Gate>(
     };
     match work_all(rt, alloc, &found.task, &mut repairing, workers, gate) {
         Ok(()) => Ok(()),
-        Err(why) => Err(stop_of(why)),
+        Err(why) => Err(why.stop_or(FixRefusal::OutOfMemory)),
     }
 }

@@ -29,7 +29,7 @@ work_only ReadFault work medium = medium
 work_only WriteFault work medium = medium
 work_only OutOfMemory work medium = medium
 
-reads_only : (why : ReadRefusal) → IsOfReading why → IsTrue (writes_badly why) → ⊥
+pub reads_only : (why : ReadRefusal) → IsOfReading why → IsTrue (writes_badly why) → ⊥
 reads_only (Ecc why) reading writes = cc
 reads_only (Rack why) reading writes = cc
 reads_only (DriveSize n) reading writes = cc

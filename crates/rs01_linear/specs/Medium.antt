@@ -79,12 +79,23 @@ IsKnownBy (Some file) known = IsOkAnd (opened_file file) (λ c. known ≡ known_
 abbrev pub TellsKnown : DeskState → Option (Bor (List ℕ)) → Result Medium ReadRefusal → Type 0
 TellsKnown desk ecc answer = IsTrue desk.tells → IfOk answer (λ medium. IsKnownBy (file_given desk ecc) (known_of medium))
 
+-- a file is opened only where its name is given, whatever the desk tells
+abbrev pub IsGiven : Option (Bor (List ℕ)) → Option Ecc → Type 0
+IsGiven None None = Unit {0}
+IsGiven None (Some opened) = ⊥
+IsGiven (Some name) None = Unit {0}
+IsGiven (Some name) (Some opened) = Unit {0}
+
 -- an error correction file that may be given is opened, or told why not
 abbrev pub OpensGiven : Option (Option (List ℕ)) → Result (Option Ecc) ReadRefusal → Type 0
 OpensGiven file (Ok None) = file ≡ None
 OpensGiven file (Ok (Some ecc)) = IsSomeAnd file (λ given. opened_file given ≡ Ok (opened_as ecc (unwrap_or given [])))
 OpensGiven file (Err (refusal.Ecc why)) = IsSomeAnd file (λ given. opened_file given ≡ Err why)
 OpensGiven file (Err why) = Unit {0}
+
+-- that, where the desk tells its files
+abbrev pub TellsOpened : DeskState → Option (Bor (List ℕ)) → Result (Option Ecc) ReadRefusal → Type 0
+TellsOpened desk ecc answer = IsTrue desk.tells → OpensGiven (file_given desk ecc) answer
 
 -- a number of sectors that no medium has
 abbrev pub IsUnfit : ℕ → Type 0

@@ -1,7 +1,7 @@
 //! Opening a medium.
-ghost use Rattle.std.specs.Prelude.{◌≤◌, IfErr, IsTrue, length};
+ghost use Rattle.std.specs.Prelude.{◌≤◌, IfErr, IfOk, length};
 ghost use Rattle.rs01_outside.specs.DeskState.{OnlyReads};
-ghost use Rattle.rs01_linear.specs.Medium.{Finds, MakesMedium, OpensGiven, TellsFound, TellsKnown, file_given};
+ghost use Rattle.rs01_linear.specs.Medium.{Finds, IsGiven, MakesMedium, TellsFound, TellsKnown, TellsOpened};
 ghost use Rattle.rs01_linear.specs.Racks.{OnRack};
 ghost use Rattle.rs01_linear.specs.Refusal.{IsOfOpening, IsOfReading, is_read_fault};
 
@@ -20,8 +20,8 @@ fn open_given<D: Desk>(
     ecc: Option<&str>,
 ) -> Result<Option<Ecc>, ReadRefusal>
     ensures reads { OnlyReads (D.state desk.old) (D.state desk.new) (is_read_fault result) }
-    ensures told { IsTrue (D.state desk.old).tells
-        → OpensGiven (file_given (D.state desk.old) ecc.entry) result }
+    ensures told { TellsOpened (D.state desk.old) ecc.entry result }
+    ensures given { IfOk result (IsGiven ecc.entry) }
     ensures causes { IfErr result IsOfOpening }
 {
     let Some(name) = ecc else {
@@ -71,6 +71,7 @@ pub fn open_medium<D: Desk>(
     ensures told { let finds = TellsFound (D.state desk.old) ecc.entry result in
         OnRack ⟦<dyn Drive as Drive>⟧ finds rack.old rack.new }
     ensures opened { TellsKnown (D.state desk.old) ecc.entry result }
+    ensures given { IfOk result (λ medium. IsGiven ecc.entry medium.ecc) }
     ensures causes { IfErr result IsOfReading }
 {
     let opened = open_given(alloc, desk, ecc)?;

@@ -57,7 +57,6 @@ fault_line (fault.Differ first other) =
     codes "rs01: drives differ: " ++ (decimal first ++ (codes " and " ++ (decimal other ++ (codes " sectors" ++ 10 ∷ []))))
 fault_line (fault.DriveSize sectors) = codes "rs01: the medium has " ++ (decimal sectors ++ (codes " sectors" ++ 10 ∷ []))
 fault_line fault.OutOfMemory = codes "rs01: memory ran out" ++ 10 ∷ []
-fault_line fault.NotBuilt = codes "rs01: not built yet" ++ 10 ∷ []
 
 -- the status of a run that a fault ends
 abbrev pub status_of : Fault → ℕ
@@ -90,4 +89,3 @@ status_of (fault.Failed drive) = 5
 status_of (fault.Differ first other) = 5
 status_of (fault.DriveSize sectors) = 5
 status_of fault.OutOfMemory = 7
-status_of fault.NotBuilt = 2

@@ -68,8 +68,6 @@ pub enum Fault {
     DriveSize(u32),
     /// There is no memory.
     OutOfMemory,
-    /// The command isn't built yet.
-    NotBuilt,
 }
 
 impl Fault {
@@ -86,8 +84,7 @@ impl Fault {
             | Fault::BadNumber(_)
             | Fault::OutOfRange(_)
             | Fault::Missing(_)
-            | Fault::SameName(_)
-            | Fault::NotBuilt => Status::Words,
+            | Fault::SameName(_) => Status::Words,
             Fault::NoImage
             | Fault::NoEcc
             | Fault::EmptyImage

@@ -10,7 +10,7 @@ pub enum Status {
     Done,
     /// The command was done, and something is wrong there, as its report tells.
     Damaged,
-    /// The words aren't understood, or their command isn't built yet.
+    /// The words aren't understood.
     Words,
     /// A file isn't there or is refused.
     Files,

@@ -180,7 +180,6 @@ fn fault_lines(rt: HostRuntime) {
         ),
         (Fault::DriveSize(0), 5, "rs01: the medium has 0 sectors\n"),
         (Fault::OutOfMemory, 7, "rs01: memory ran out\n"),
-        (Fault::NotBuilt, 2, "rs01: not built yet\n"),
     ] {
         assert_line(&rt, rt.alloc(), &fault, status, line);
     }

@@ -228,7 +228,6 @@ pub(crate) fn fault_text(alloc: Global, fault: &Fault) -> Result<String, AllocEr
         ),
         Fault::DriveSize(sectors) => format!(in alloc; "rs01: the medium has {sectors} sectors\n"),
         Fault::OutOfMemory => format!(in alloc; "rs01: memory ran out\n"),
-        Fault::NotBuilt => format!(in alloc; "rs01: not built yet\n"),
     }
 }
 

@@ -18,6 +18,12 @@ pub use drives::drive_names;
 pub use fault::{WordFault, WordRefused};
 pub use places::Places;
 pub use read::read_words;
+pub use table::{
+    Kind, OptionRule, OptionWord, PlainName, PlainWord, Preset, Verb, name_of, options_of,
+    plain_text, plain_words_of, preset_bytes, preset_of, preset_text, presets, rule_of, text_of,
+    value_name, verb_of, verbs,
+};
+pub use value::number_up_to;
 pub use walk::word_at;
 
 #[cfg(test)]

@@ -2,10 +2,10 @@
 //!
 //! Each function gives one column of the grammar's rows in `specs/Grammar.antt`, and is proved to.
 ghost use Rattle.std.specs.Prelude.{◌≡◌, ◌<◌};
-ghost use Rattle.rs01_words.specs.Grammar.{options_of, plain_words_of, preset_of, row_of, rule_of, verb_of};
+ghost use Rattle.rs01_words.specs.Grammar.{name_of, named_presets, options_of, plain_text, plain_words_of, preset_bytes, preset_of, preset_text, row_of, rule_of, verb_of, verbs};
 
 /// A command.
-#[derive(Clone, Copy)]
+#[derive(Clone, Copy, Debug, PartialEq, Eq)]
 pub enum Verb {
     Create,
     Fix,
@@ -47,9 +47,34 @@ pub enum Kind {
     Parity { low: u64, high: u64 },
 }
 
+/// What a plain word is called where its command is explained.
+#[derive(Clone, Copy)]
+pub enum PlainName {
+    /// The image.
+    Image,
+    /// Its error correction file.
+    Ecc,
+    /// What the image of `demo` is made from.
+    Number,
+    /// How many sectors `demo` makes.
+    Sectors,
+    /// The parity bytes of a codeword.
+    Parity,
+    /// How many sectors `demo` loses.
+    Lost,
+}
+
+/// A number of parity bytes that has a name.
+#[derive(Clone, Copy)]
+pub enum Preset {
+    Normal,
+    High,
+}
+
 /// What the grammar says of a plain word.
 #[derive(Clone, Copy)]
 pub struct PlainWord {
+    pub name: PlainName,
     pub kind: Kind,
     /// Whether the word must be there. Those that may be left out are a command's last ones.
     pub needed: bool,
@@ -102,17 +127,53 @@ pub const LOST_SECTORS: Kind = Kind::Number {
     high: 65_536,
 };
 
-/// A file's name that must be there.
-const NAME: PlainWord = PlainWord {
+// The name of an image that must be there.
+const IMAGE: PlainWord = PlainWord {
+    name: PlainName::Image,
     kind: Kind::Name,
     needed: true,
 };
 
-/// A file's name that may be left out.
-const NAME_IF_ANY: PlainWord = PlainWord {
+// The name of an error correction file that must be there.
+const ECC: PlainWord = PlainWord {
+    name: PlainName::Ecc,
+    kind: Kind::Name,
+    needed: true,
+};
+
+// The name of an error correction file that may be left out.
+const ECC_IF_ANY: PlainWord = PlainWord {
+    name: PlainName::Ecc,
     kind: Kind::Name,
     needed: false,
 };
+
+/// The numbers of parity bytes that have names.
+pub fn presets() -> &'static [Preset]
+    ensures { result.now ≡ named_presets }
+{
+    &[Preset::Normal, Preset::High]
+}
+
+/// How a preset is written.
+pub fn preset_text(preset: Preset) -> &'static str
+    ensures { result.now ≡ preset_text preset }
+{
+    match preset {
+        Preset::Normal => "normal",
+        Preset::High => "high",
+    }
+}
+
+/// The parity bytes of a preset.
+pub fn preset_bytes(preset: Preset) -> u64
+    ensures { result ≡ preset_bytes preset }
+{
+    match preset {
+        Preset::Normal => 32,
+        Preset::High => 64,
+    }
+}
 
 /// The number of the preset that a word names.
 pub fn preset_of(word: &str) -> Option<u64>
@@ -122,6 +183,34 @@ pub fn preset_of(word: &str) -> Option<u64>
         "normal" => Some(32),
         "high" => Some(64),
         _ => None,
+    }
+}
+
+/// The commands, in the table's order.
+pub fn verbs() -> &'static [Verb]
+    ensures { result.now ≡ verbs }
+{
+    &[
+        Verb::Create,
+        Verb::Fix,
+        Verb::Verify,
+        Verb::Scan,
+        Verb::Read,
+        Verb::Demo,
+    ]
+}
+
+/// How a command is written.
+pub fn name_of(verb: Verb) -> &'static str
+    ensures { result.now ≡ name_of verb }
+{
+    match verb {
+        Verb::Create => "create",
+        Verb::Fix => "fix",
+        Verb::Verify => "verify",
+        Verb::Scan => "scan",
+        Verb::Read => "read",
+        Verb::Demo => "demo",
     }
 }
 
@@ -140,28 +229,46 @@ pub fn verb_of(word: &str) -> Option<Verb>
     }
 }
 
+/// What a plain word is called.
+pub fn plain_text(name: PlainName) -> &'static str
+    ensures { result.now ≡ plain_text name }
+{
+    match name {
+        PlainName::Image => "IMAGE",
+        PlainName::Ecc => "ECC",
+        PlainName::Number => "NUMBER",
+        PlainName::Sectors => "SECTORS",
+        PlainName::Parity => "PARITY",
+        PlainName::Lost => "LOST",
+    }
+}
+
 /// The plain words of a command, in their order.
 pub fn plain_words_of(verb: Verb) -> &'static [PlainWord]
     ensures { result.now ≡ plain_words_of verb }
 {
     match verb {
-        Verb::Create | Verb::Fix | Verb::Verify => &[NAME, NAME],
-        Verb::Scan => &[NAME_IF_ANY],
-        Verb::Read => &[NAME, NAME_IF_ANY],
+        Verb::Create | Verb::Fix | Verb::Verify => &[IMAGE, ECC],
+        Verb::Scan => &[ECC_IF_ANY],
+        Verb::Read => &[IMAGE, ECC_IF_ANY],
         Verb::Demo => &[
             PlainWord {
+                name: PlainName::Number,
                 kind: SEEDS,
                 needed: true,
             },
             PlainWord {
+                name: PlainName::Sectors,
                 kind: MADE_SECTORS,
                 needed: true,
             },
             PlainWord {
+                name: PlainName::Parity,
                 kind: PARITY_BYTES,
                 needed: true,
             },
             PlainWord {
+                name: PlainName::Lost,
                 kind: LOST_SECTORS,
                 needed: true,
             },
@@ -200,6 +307,20 @@ pub fn text_of(option: OptionWord) -> &'static str
         OptionWord::Adaptive => "--adaptive",
         OptionWord::Jump => "--jump",
         OptionWord::Tries => "--tries",
+    }
+}
+
+/// What the value of an option is called. Empty where it takes no value.
+pub fn value_name(option: OptionWord) -> &'static str
+    ensures { result.now ≡ (row_of option).name }
+{
+    match option {
+        OptionWord::Parity => "N",
+        OptionWord::Workers => "W",
+        OptionWord::Cut | OptionWord::Adaptive => "",
+        OptionWord::Drive => "D",
+        OptionWord::Jump => "J",
+        OptionWord::Tries => "T",
     }
 }
 

@@ -1,5 +1,5 @@
 //! The grammar against worked command lines.
-use crate::{Command, WordFault, drive_names, read_words};
+use crate::{Command, WordFault, drive_names, name_of, read_words, verb_of, verbs};
 use std::alloc::{AllocError, Global};
 use std::test::Fail;
 
@@ -180,4 +180,12 @@ fn drives(rt: HostRuntime) -> Result<(), Fail> {
         }
     }
     Ok(())
+}
+
+#[test]
+fn names(rt: HostRuntime) {
+    assert_eq!(rt; verbs().len(), 6);
+    for verb in verbs() {
+        assert_eq!(rt; verb_of(name_of(*verb)), Some(*verb));
+    }
 }

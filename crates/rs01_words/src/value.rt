@@ -33,9 +33,9 @@ fn add_digit(number: u64, digit: u8, high: u64) -> Option<u64>
     if number <= high { Some(number) } else { None }
 }
 
-// The number of the digits, where it is at most `high`. A word may have any count of digits, so
-// the number may be beyond every type.
-fn number_up_to(digits: &[u8], high: u64) -> Option<u64>
+/// The number of these digits, where it is at most `high`. A word may have any count of digits, so
+/// the number may be beyond every type.
+pub fn number_up_to(digits: &[u8], high: u64) -> Option<u64>
     ensures { result ≡ up_to high (number_of digits.now) }
 {
     let mut number: u64 = 0;

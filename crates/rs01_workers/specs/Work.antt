@@ -48,3 +48,8 @@ Stands going done halted filler OutOfMemory = going filler ⊎ done filler
 pub record IsWorkOf (value : LayerInput → LayerOut) (posted inputs : List LayerInput) (outs : List LayerOut) : Type 0 where
   pub same : inputs ≡ posted
   pub values : outs ≡ map value inputs
+
+-- how a filler stopped whose window was given up, or what is said where memory ran out
+abbrev pub stop_or : {S : Type 0} → WindowStop S → S → S
+stop_or (Stopped stop) out_of_memory = stop
+stop_or OutOfMemory out_of_memory = out_of_memory

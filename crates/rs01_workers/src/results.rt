@@ -1,5 +1,6 @@
 //! What a window's work gave.
 ghost use Rattle.std.specs.Prelude.{◌≡◌, ◌≤◌, ◌<◌, Some, length, slice_get};
+ghost use Rattle.rs01_workers.specs.Work.{stop_or};
 
 use rs01_layers::{LayerInput, LayerOut};
 use std::marker::Model;
@@ -73,4 +74,16 @@ pub enum WindowStop<S: Drop> {
     Stopped(S),
     /// Memory ran out.
     OutOfMemory,
+}
+
+impl<S: Drop> WindowStop<S> {
+    /// How the filler stopped, or `out_of_memory` where it was memory that ran out.
+    pub fn stop_or(self, out_of_memory: S) -> S
+        ensures { result ≡ stop_or self out_of_memory }
+    {
+        match self {
+            WindowStop::Stopped(stop) => stop,
+            WindowStop::OutOfMemory => out_of_memory,
+        }
+    }
 }
