@@ -1,0 +1,10 @@
+pub mod Whole
+pub mod Outcome
+pub mod Putting
+pub mod Noting
+pub mod Sights
+pub mod AlongLaws
+pub mod Settling
+pub mod Preparing
+pub mod Windows
+pub mod Beginning

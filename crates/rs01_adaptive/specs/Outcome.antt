@@ -1,0 +1,66 @@
+-- What a reading by turns into a named image leaves and answers. The image file before is empty where it wasn't there.
+use Rattle.std.specs.Prelude.{ℕ, ◌≡◌, ◌<◌, ◌≤◌, ◌⊎◌, IsSomeAnd, IsTrue, List, [], Option, Some, Result, length, slice_get, slice_index}
+use Rattle.std.specs.Borrow.{Bor}
+use Rattle.std.specs.Option.{unwrap_or}
+use Rattle.rs01_layers.specs.declared.shape.Shape.{Shape}
+use Rattle.rs01_outside.specs.DeskState.{DeskState}
+use Rattle.rs01_outside.specs.DriveView.{DriveView}
+use Rattle.rs01_rack.specs.Rack.{AllTell, RackState, views_of}
+use Rattle.rs01_report.specs.declared.reports.ReadReport.{ReadReport}
+use Rattle.rs01_linear.specs.Lasting.{CountsAsks}
+use Rattle.rs01_linear.specs.Left.{marked}
+use Rattle.rs01_turns.specs.Stops.{AskedSome}
+use Rattle.rs01_linear.specs.Medium.{Found, file_given}
+use Rattle.rs01_linear.specs.Outcome.{ReadsBy, asked_since}
+use Rattle.rs01_linear.specs.declared.refusal.ReadRefusal.{ReadRefusal}
+use Rattle.rs01_adaptive.specs.Whole.{IsShapeOf, Whole, end_in, image_left, known_in, report_of}
+
+-- the reading of a medium that was found, with the shape of its file
+abbrev pub whole : Found → Option Shape → ℕ → List ℕ → List DriveView → Whole
+whole medium shape tries image views = record { medium = medium; shape = shape; tries = tries; image = image; views = views }
+
+-- what holds of that reading
+pub record OfWhole (medium : Found) (tries : ℕ) (image : List ℕ) (views : List DriveView) (Fact : Whole → Type 0) : Type 0 where
+  pub shape : Option Shape
+  pub shape_is : IsShapeOf medium.opened shape
+  pub fact : Fact (whole medium shape tries image views)
+
+-- a medium was read to its end: the image file, the drives and what is told are those of the whole reading
+pub record IsReadInto (old new : RackState) (file : Option (List ℕ)) (told : ReadReport) (w : Whole) : Type 0 where
+  pub file_is : file ≡ Some (image_left w)
+  pub views_are : views_of new ≡ (end_in w).views
+  pub told_is : told ≡ report_of w (asked_since old new)
+  -- the rack's count of asks rose by as many as the drives' lists of asks show more
+  pub asks : CountsAsks old new
+
+-- each drive was asked for some first ones of the sectors that it is asked for to the end
+abbrev pub AllAskedSome : (sofar all : List DriveView) → Type 0
+AllAskedSome sofar all = (k : ℕ) (one other : DriveView) → slice_get sofar k ≡ Some one → slice_get all k ≡ Some other → AskedSome one other
+
+-- each byte is the old one, or that of the marked file, or that of the file that is left at the end
+abbrev pub IsOfThree : (old marked left file : List ℕ) → ℕ → Type 0
+IsOfThree old marked left file k =
+    (slice_index file k ≡ slice_index old k) ⊎ ((slice_index file k ≡ slice_index marked k) ⊎ (slice_index file k ≡ slice_index left k))
+
+-- a file that isn't shorter than the old one and is made of those
+pub record IsBetween (w : Whole) (file : List ℕ) : Type 0 where
+  pub longer : length w.image ≤ length file
+  pub bytes : (k : ℕ) → k < length file → IsOfThree w.image (marked (known_in w) w.image) (image_left w) file k
+
+-- it wasn't: the drives were asked for some first sectors, and the image file is as it was or on the way
+pub record IsLeftAt (drives : List DriveView) (before file : Option (List ℕ)) (w : Whole) : Type 0 where
+  pub number : length drives ≡ length w.views
+  pub asked : AllAskedSome drives (end_in w).views
+  pub file_is : (file ≡ before) ⊎ IsSomeAnd file (IsBetween w)
+
+-- what a reading leaves and answers, where the desk and the drives tell
+abbrev pub Reads : Option (Option (List ℕ)) → ℕ → (old new : RackState) → (before file : Option (List ℕ)) → Result ReadReport ReadRefusal → Type 0
+Reads given tries old new before file result =
+    ReadsBy given old new before file
+    (λ told medium. OfWhole medium tries (unwrap_or before []) (views_of old) (IsReadInto old new file told))
+    (λ medium. OfWhole medium tries (unwrap_or before []) (views_of old) (IsLeftAt (views_of new) before file)) result
+
+-- the same of a reading into the named image, and only there where both tell
+abbrev pub TellsReading : (desk desk' : DeskState) → Option (Bor (List ℕ)) → ℕ → List ℕ → Result ReadReport ReadRefusal → (old new : RackState) → Type 0
+TellsReading desk desk' ecc tries name result old new =
+    IsTrue desk.tells → AllTell new → Reads (file_given desk ecc) tries old new (desk.files name) (desk'.files name) result
