@@ -1,0 +1,7 @@
+use Rattle.std.proofs.Common.{◌≡◌, ◌+◌, drop}
+use Rattle.std.specs.List.{prefix_len}
+use Rattle.rs01_words.specs.Value.{is_digit}
+use Rattle.rs01_help.proofs.reading.digit_count.Given as goal
+
+abbrev pub invariant-loop-at : goal.invariant-loop-at
+invariant-loop-at l = prefix_len is_digit l.bytes ≡ l.at + prefix_len is_digit (drop l.at l.bytes)

@@ -1,0 +1,9 @@
+pub mod Usage
+pub mod Senses
+pub mod Pages
+pub mod Topics
+pub mod Faulty
+pub mod Reading
+pub mod Heads
+pub mod Hints
+pub mod Progress
