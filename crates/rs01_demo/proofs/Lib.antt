@@ -1,4 +1,5 @@
 pub mod CountLemmas
+mod Ends
 mod GeneratorLemmas
 mod NoMarkers
 mod PlanLemmas

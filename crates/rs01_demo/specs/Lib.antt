@@ -3,3 +3,4 @@ pub mod Plan
 pub mod Faults
 pub mod Steps
 pub mod Answer
+pub mod Showing

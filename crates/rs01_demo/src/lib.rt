@@ -2,7 +2,6 @@
 #![tactic(auto)]
 
 mod comparing;
-mod demo;
 mod demonstration;
 mod generator;
 pub mod laws;
@@ -10,8 +9,9 @@ mod making;
 mod marking;
 mod plan;
 mod refusal;
+mod showing;
 mod telling;
 
-pub use demo::demo_one;
 pub use demonstration::Demonstration;
 pub use refusal::DemoRefusal;
+pub use showing::{demo, demo_one};

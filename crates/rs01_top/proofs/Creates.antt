@@ -1,11 +1,12 @@
 -- What holds of a run that makes the file of an image, by how the making and the last text ended.
-use Rattle.std.proofs.Common.{◌≡◌, ℕ, List, refl, ap, ◌∙◌, inl, inr, arith, false}
-use Rattle.std.specs.Prelude.{IsTrue, Option, Some, None, Err}
+use Rattle.std.proofs.Common.{◌≡◌, ℕ, List, refl, ap, ◌∙◌, inl, inr, arith, false, subst}
+use Rattle.std.specs.Prelude.{IsTrue, Option, Some, None, Result, Ok, Err}
 use Rattle.rs01_outside.specs.DeskState.{DeskState, WorksOn}
 use Rattle.rs01_outside.specs.Files.{Files}
 use Rattle.rs01_outside.specs.SinkState.{SinkState}
 use Rattle.rs01_create.specs.Answer.{Creates, IsMade, IsRefused, Leaves, is_read_fault, is_write_fault}
 use Rattle.rs01_create.specs.Create.{refusal_of}
+use Rattle.rs01_create.specs.Creating.{IsCreate}
 use Rattle.rs01_create.specs.declared.refusal.CreateRefusal.{CreateRefusal}
 use Rattle.rs01_create.specs.declared.refusal.CreateRefusal.TheVariants.{NoImage, EmptyImage, TooManySectors, Marker, ReadFault, WriteFault, OutOfMemory}
 use Rattle.rs01_report.specs.declared.faults.Fault.{Fault}
@@ -41,7 +42,7 @@ stays None header old new e = inl e
 stays (Some why) header old new e = e
 
 -- the file was made
-pub made : (image ecc : List ℕ) (r : ℕ) (old new : DeskState) (out out' : SinkState) (report : CreateReport) (status : ℕ)
+made : (image ecc : List ℕ) (r : ℕ) (old new : DeskState) (out out' : SinkState) (report : CreateReport) (status : ℕ)
     → WorksOn ecc old new false false
     → (IsTrue old.tells → IsMade image ecc r old.files new.files report)
     → Ends (create_lines report ecc) 0 out out' status
@@ -66,7 +67,7 @@ of_image image ecc r old new out out' why status three works is ends =
     (λ rack d. record { elsewhere = works.elsewhere d; left = inl (stays _ _ _ _ (ap (λ (f : Files). f ecc) (is d).unchanged)) })
     ends
 
-pub not_made : (image ecc : List ℕ) (r : ℕ) (old new : DeskState) (out out' : SinkState) (why : CreateRefusal) (status : ℕ)
+not_made : (image ecc : List ℕ) (r : ℕ) (old new : DeskState) (out out' : SinkState) (why : CreateRefusal) (status : ℕ)
     → WorksOn ecc old new (is_read_fault {T = CreateReport} (Err why)) (is_write_fault {T = CreateReport} (Err why))
     → (IsTrue old.tells → Creates image ecc r old.files new.files (Err why))
     → Ends (fault_line (create_fault why)) (status_of (create_fault why)) out out' status
@@ -86,3 +87,17 @@ not_made image ecc r old new out out' WriteFault status works is ends =
 not_made image ecc r old new out out' OutOfMemory status works is ends =
     out_of_memory (create_work image ecc r) ecc old new out out' status (not_of_words image ecc r) works
     (λ rack d. record { elsewhere = works.elsewhere d; left = inl (is d) }) ends
+
+-- the same by what was answered
+pub told_made : (image ecc : List ℕ) (r : ℕ) (old new : DeskState) (out out' : SinkState) (answer : Result CreateReport CreateRefusal) (report : CreateReport) (status : ℕ)
+    → answer ≡ Ok report → IsCreate image ecc r old new answer → Ends (create_lines report ecc) 0 out out' status → RunsAlone (create_work image ecc r) old new out out' status
+told_made image ecc r old new out out' answer report status is it ends =
+    let p = subst (λ (a : Result CreateReport CreateRefusal). IsCreate image ecc r old new a) is it in
+    made image ecc r old new out out' report status p.works p.answer ends
+
+pub told_not_made : (image ecc : List ℕ) (r : ℕ) (old new : DeskState) (out out' : SinkState) (answer : Result CreateReport CreateRefusal) (why : CreateRefusal) (status : ℕ)
+    → answer ≡ Err why → IsCreate image ecc r old new answer → Ends (fault_line (create_fault why)) (status_of (create_fault why)) out out' status
+    → RunsAlone (create_work image ecc r) old new out out' status
+told_not_made image ecc r old new out out' answer why status is it ends =
+    let p = subst (λ (a : Result CreateReport CreateRefusal). IsCreate image ecc r old new a) is it in
+    not_made image ecc r old new out out' why status p.works p.answer ends

@@ -1,17 +1,17 @@
 -- What holds of a run that shows what the codec does, by how the work and the last text ended.
-use Rattle.std.proofs.Common.{◌≡◌, ◌⊎◌, ℕ, List, refl, sym, subst, ap, inl, inr, Bool, true, false}
-use Rattle.std.specs.Prelude.{IsTrue, IsOkAnd, IsSomeAnd, Option, Some, None, Result, Ok, Err, if◌then◌else◌}
+use Rattle.std.proofs.Common.{◌≡◌, ℕ, refl, subst, ap, inr, Bool, true, false}
+use Rattle.std.specs.Prelude.{IsTrue, IsOkAnd, Result, Ok, Err, if◌then◌else◌}
 use Rattle.rs01_outside.specs.DeskState.{DeskState}
 use Rattle.rs01_outside.specs.Files.{Files}
 use Rattle.rs01_outside.specs.SinkState.{SinkState}
-use Rattle.rs01_create.specs.declared.refusal.CreateRefusal.{CreateRefusal}
 use Rattle.rs01_create.specs.declared.refusal.CreateRefusal.TheVariants as create
 use Rattle.rs01_fix.specs.Answer.{Repaired}
 use Rattle.rs01_fix.specs.declared.refusal.FixRefusal.{FixRefusal}
 use Rattle.rs01_fix.specs.declared.refusal.FixRefusal.TheVariants as fix
 use Rattle.rs01_demo.specs.Answer.{HasShown}
 use Rattle.rs01_demo.specs.Faults.{WorksOnTwo, reads_badly, writes_badly}
-use Rattle.rs01_demo.specs.Plan.{ecc_name, image_name, is_whole, outcome, report_of}
+use Rattle.rs01_demo.specs.Showing.{IsDemo}
+use Rattle.rs01_demo.specs.Plan.{ecc_name, image_name, outcome}
 use Rattle.rs01_demo.specs.Steps.{IsLeft, Stops}
 use Rattle.rs01_demo.specs.declared.demonstration.Demonstration.{Demonstration}
 use Rattle.rs01_demo.specs.declared.plan.Plan.{Plan}
@@ -20,7 +20,6 @@ use Rattle.rs01_demo.specs.declared.refusal.DemoRefusal.TheVariants.{Create, Fix
 use Rattle.rs01_rack.specs.Rack.{RackState}
 use Rattle.rs01_report.specs.declared.faults.Fault.{Fault}
 use Rattle.rs01_report.specs.declared.faults.Fault.TheVariants as fault
-use Rattle.rs01_report.specs.declared.reports.DemoReport.{DemoReport}
 use Rattle.rs01_report.specs.Faults.{fault_line, status_of}
 use Rattle.rs01_report.specs.Texts.{demo_lines}
 use Rattle.rs01_top.specs.Demo.{HasDemonstrated, MayStandAfterDemo, work_of_plan}
@@ -64,7 +63,7 @@ after plan rack old new shown d works is = record {
 }
 
 -- it was shown
-pub shown_so : (plan : Plan) (old new : DeskState) (out out' : SinkState) (shown : Demonstration) (status : ℕ)
+shown_so : (plan : Plan) (old new : DeskState) (out out' : SinkState) (shown : Demonstration) (status : ℕ)
     → WorksOnTwo image_name ecc_name old new false false
     → (IsTrue old.tells → IsOkAnd (outcome plan) (HasShown plan image_name ecc_name new.files shown))
     → Ends (demo_lines shown.report) (status_for shown.whole) out out' status
@@ -121,7 +120,7 @@ memory_ran_out plan old new out out' why status works is ends = λ rack.
     (λ d. stands plan old new false false why rack works is d.0) ends
 
 -- it wasn't
-pub not_shown : (plan : Plan) (old new : DeskState) (out out' : SinkState) (why : DemoRefusal) (status : ℕ)
+not_shown : (plan : Plan) (old new : DeskState) (out out' : SinkState) (why : DemoRefusal) (status : ℕ)
     → WorksOnTwo image_name ecc_name old new (reads_badly why) (writes_badly why)
     → (IsTrue old.tells → Stops plan image_name ecc_name old.files new.files why)
     → Ends (fault_line (demo_fault why)) (status_of (demo_fault why)) out out' status
@@ -143,3 +142,18 @@ not_shown plan old new out out' (Fix fix.OutOfMemory) status works is ends = mem
 not_shown plan old new out out' ReadFault status works is ends = read_stopped plan old new out out' ReadFault status works is ends
 not_shown plan old new out out' WriteFault status works is ends = write_stopped plan old new out out' WriteFault status works is ends
 not_shown plan old new out out' OutOfMemory status works is ends = memory_ran_out plan old new out out' OutOfMemory status works is ends
+
+-- the same by what was answered
+pub told_shown : (plan : Plan) (old new : DeskState) (out out' : SinkState) (answer : Result Demonstration DemoRefusal) (shown : Demonstration) (status : ℕ)
+    → answer ≡ Ok shown → IsDemo plan image_name ecc_name old new answer → Ends (demo_lines shown.report) (status_for shown.whole) out out' status
+    → RunsAlone (work_of_plan plan) old new out out' status
+told_shown plan old new out out' answer shown status is it ends =
+    let p = subst (λ (a : Result Demonstration DemoRefusal). IsDemo plan image_name ecc_name old new a) is it in
+    shown_so plan old new out out' shown status p.works p.answer ends
+
+pub told_not_shown : (plan : Plan) (old new : DeskState) (out out' : SinkState) (answer : Result Demonstration DemoRefusal) (why : DemoRefusal) (status : ℕ)
+    → answer ≡ Err why → IsDemo plan image_name ecc_name old new answer → Ends (fault_line (demo_fault why)) (status_of (demo_fault why)) out out' status
+    → RunsAlone (work_of_plan plan) old new out out' status
+told_not_shown plan old new out out' answer why status is it ends =
+    let p = subst (λ (a : Result Demonstration DemoRefusal). IsDemo plan image_name ecc_name old new a) is it in
+    not_shown plan old new out out' why status p.works p.answer ends

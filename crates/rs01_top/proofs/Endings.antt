@@ -145,8 +145,11 @@ pub record OfRack (work : Work) (old new : RackState) : Type 0 where
 pub rack_lasts : (old new : RackState) → lasting.RackLasts old new → RackLasts old new
 rack_lasts old new lasts = record { number = lasts.number; each = lasts.each }
 
+pub asked_drives : (work : Work) (old new : RackState) → work.uses_drives ≡ true → RackLasts old new → OfRack work old new
+asked_drives work old new uses lasts = record { lasts = lasts; unused = λ h. absurd (not_false (subst (λ (b : Bool). IsTrue (not b)) uses h)) }
+
 pub was_asked : (work : Work) (old new : RackState) → work.uses_drives ≡ true → lasting.RackLasts old new → OfRack work old new
-was_asked work old new uses lasts = record { lasts = rack_lasts old new lasts; unused = λ h. absurd (not_false (subst (λ (b : Bool). IsTrue (not b)) uses h)) }
+was_asked work old new uses lasts = asked_drives work old new uses (rack_lasts old new lasts)
 
 -- drives that weren't
 pub rack_stays : (rack : RackState) → RackLasts rack rack
@@ -387,7 +390,21 @@ pub read_failed : (work : Work) (name : List ℕ) (old new : World) (status : �
 read_failed work name old new status words rack works left ends =
     read_failed_by work old new status words rack (counts name old.desk new.desk true false works) left ends
 
--- writing is tried only by work that does more than read, once nothing refuses it
+-- writing is tried only by work that does more than read, once nothing refuses it; reading may have failed besides
+pub writing_failed : (work : Work) (old new : World) (status : ℕ)
+    → NotOfWords work → work.only_reads ≡ false → OfRack work old.rack new.rack
+    → new.desk.tells ≡ old.desk.tells → old.desk.read_faults ≤ new.desk.read_faults → old.desk.write_faults ≤ new.desk.write_faults
+    → Rose old.desk.write_faults new.desk.write_faults
+    → (IsKnown work old new → work.refusal (outside_of old) ≡ None)
+    → (IsKnown work old new → work.may_stand (outside_of old) (outside_of new))
+    → Ends (fault_line fault.WriteFault) 4 old.out new.out status
+    → IsRun work old new status
+writing_failed work old new status words more rack tells reads writes rose none left ends =
+    faulted work old new (fault_line fault.WriteFault) status words rack tells reads writes left
+    (inr (rose, refl))
+    (λ h. absurd (⊎_elim (λ only. not_false (subst IsTrue more only)) (λ p. not_some (work.refusal (outside_of old)) (none p.0) p.1) h))
+    (told (fault_line fault.WriteFault) 4 old.out new.out status (λ e. omega arith) (λ e. omega arith) ends)
+
 pub write_failed_by : (work : Work) (old new : World) (status : ℕ)
     → NotOfWords work → work.only_reads ≡ false → OfRack work old.rack new.rack → CountsFaults old.desk new.desk false true
     → (IsKnown work old new → work.refusal (outside_of old) ≡ None)
@@ -395,10 +412,7 @@ pub write_failed_by : (work : Work) (old new : World) (status : ℕ)
     → Ends (fault_line fault.WriteFault) 4 old.out new.out status
     → IsRun work old new status
 write_failed_by work old new status words more rack works none left ends =
-    faulted work old new (fault_line fault.WriteFault) status words rack works.tells works.reads_later works.writes_later left
-    (inr (works.write_rose refl, refl))
-    (λ h. absurd (⊎_elim (λ only. not_false (subst IsTrue more only)) (λ p. not_some (work.refusal (outside_of old)) (none p.0) p.1) h))
-    (told (fault_line fault.WriteFault) 4 old.out new.out status (λ e. omega arith) (λ e. omega arith) ends)
+    writing_failed work old new status words more rack works.tells works.reads_later works.writes_later (works.write_rose refl) none left ends
 
 pub write_failed : (work : Work) (name : List ℕ) (old new : World) (status : ℕ)
     → NotOfWords work → work.only_reads ≡ false → OfRack work old.rack new.rack → WorksOn name old.desk new.desk false true

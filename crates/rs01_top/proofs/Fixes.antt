@@ -7,6 +7,7 @@ use Rattle.rs01_outside.specs.Files.{Files}
 use Rattle.rs01_outside.specs.SinkState.{SinkState}
 use Rattle.rs01_fix.specs.Answer.{MayStand, Repaired, fix_answer}
 use Rattle.rs01_fix.specs.Between.{IsBetween}
+use Rattle.rs01_fix.specs.Fixing.{IsFix}
 use Rattle.rs01_fix.specs.Outcome.{Refuses, Repairs, is_read_fault, is_write_fault}
 use Rattle.rs01_fix.specs.declared.refusal.FixRefusal.{FixRefusal}
 use Rattle.rs01_fix.specs.declared.refusal.FixRefusal.TheVariants.{NoFile, Head, Size, Body, ReadFault, WriteFault, OutOfMemory}
@@ -77,7 +78,7 @@ accepted (Ok x) ok = refl
 accepted (Err why) ok = cc
 
 -- the image was repaired
-pub fixed : (image ecc : List ℕ) (cut : Bool) (old new : DeskState) (out out' : SinkState) (report : FixReport) (status : ℕ)
+fixed : (image ecc : List ℕ) (cut : Bool) (old new : DeskState) (out out' : SinkState) (report : FixReport) (status : ℕ)
     → WorksOn image old new false false
     → (IsTrue old.tells → IsOkAnd (fix_answer (old.files ecc) (old.files image) cut) (Repairs image old.files new.files report))
     → Ends (fix_lines report image) (fixed_status report) out out' status
@@ -109,7 +110,7 @@ of_files image ecc cut old new out out' why status three works is answer same en
     (λ rack d. ap (λ (r : Result Repaired FixRefusal). fault_in fix_fault r) (answer d))
     same (stands image ecc cut old new false false why works is) ends
 
-pub not_fixed : (image ecc : List ℕ) (cut : Bool) (old new : DeskState) (out out' : SinkState) (why : FixRefusal) (status : ℕ)
+not_fixed : (image ecc : List ℕ) (cut : Bool) (old new : DeskState) (out out' : SinkState) (why : FixRefusal) (status : ℕ)
     → WorksOn image old new (is_read_fault {T = FixReport} (Err why)) (is_write_fault {T = FixReport} (Err why))
     → (IsTrue old.tells → Refuses image ecc cut old.files new.files why)
     → (IsTrue old.tells → IsTrue (is_write_fault {T = FixReport} (Err why)) → IsOk (fix_answer (old.files ecc) (old.files image) cut))
@@ -133,3 +134,17 @@ not_fixed image ecc cut old new out out' WriteFault status works is last ends =
 not_fixed image ecc cut old new out out' OutOfMemory status works is last ends =
     out_of_memory (fix_work image ecc cut) image old new out out' status (not_of_words image ecc cut) works
     (stands image ecc cut old new false false OutOfMemory works is) ends
+
+-- the same by what was answered
+pub told_fixed : (image ecc : List ℕ) (cut : Bool) (old new : DeskState) (out out' : SinkState) (answer : Result FixReport FixRefusal) (report : FixReport) (status : ℕ)
+    → answer ≡ Ok report → IsFix image ecc cut old new answer → Ends (fix_lines report image) (fixed_status report) out out' status → RunsAlone (fix_work image ecc cut) old new out out' status
+told_fixed image ecc cut old new out out' answer report status is it ends =
+    let p = subst (λ (a : Result FixReport FixRefusal). IsFix image ecc cut old new a) is it in
+    fixed image ecc cut old new out out' report status p.works p.answer ends
+
+pub told_not_fixed : (image ecc : List ℕ) (cut : Bool) (old new : DeskState) (out out' : SinkState) (answer : Result FixReport FixRefusal) (why : FixRefusal) (status : ℕ)
+    → answer ≡ Err why → IsFix image ecc cut old new answer → Ends (fault_line (fix_fault why)) (status_of (fix_fault why)) out out' status
+    → RunsAlone (fix_work image ecc cut) old new out out' status
+told_not_fixed image ecc cut old new out out' answer why status is it ends =
+    let p = subst (λ (a : Result FixReport FixRefusal). IsFix image ecc cut old new a) is it in
+    not_fixed image ecc cut old new out out' why status p.works p.answer p.write_fault_last ends

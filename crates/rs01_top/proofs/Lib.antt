@@ -5,7 +5,9 @@ mod Demos
 mod Endings
 mod Fixes
 mod HeadFaults
+mod Linears
 mod MediumFaults
 mod Readings
 mod Scans
+mod Turns
 mod Verifies

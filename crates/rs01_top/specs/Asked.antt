@@ -1,7 +1,6 @@
 -- The work that words ask for.
 use Rattle.std.specs.Prelude.{ℕ, List, Result, Ok, Err, false, true}
 use Rattle.std.specs.Option.{option_map}
-use Rattle.rs01_report.specs.declared.faults.Fault.TheVariants as fault
 use Rattle.rs01_words.specs.declared.command.Command.{Command}
 use Rattle.rs01_words.specs.declared.command.Command.TheVariants as command
 use Rattle.rs01_words.specs.declared.fault.WordRefused.{WordRefused}
@@ -13,6 +12,7 @@ use Rattle.rs01_top.specs.Faults.{word_fault}
 use Rattle.rs01_top.specs.Fix.{fix_work}
 use Rattle.rs01_top.specs.Read.{read_work}
 use Rattle.rs01_top.specs.Scan.{scan_work}
+use Rattle.rs01_top.specs.Turned.{adaptive_work}
 use Rattle.rs01_top.specs.Verify.{verify_work}
 use Rattle.rs01_top.specs.Work.{Work, no_work}
 
@@ -22,7 +22,8 @@ work_of words (command.Create image ecc parity workers) = create_work (word_at w
 work_of words (command.Fix image ecc workers cut) = fix_work (word_at words image) (word_at words ecc) cut
 work_of words (command.Verify image ecc) = verify_work (word_at words image) (word_at words ecc)
 work_of words (command.Scan ecc drives) = scan_work (option_map (word_at words) ecc)
-work_of words (command.Read image ecc drives true jump tries workers) = no_work fault.NotBuilt
+work_of words (command.Read image ecc drives true jump tries workers) =
+    adaptive_work (word_at words image) (option_map (word_at words) ecc) tries
 work_of words (command.Read image ecc drives false jump tries workers) =
     read_work (word_at words image) (option_map (word_at words) ecc) jump tries
 work_of words (command.Demo number sectors parity lost) = demo_work number sectors parity lost

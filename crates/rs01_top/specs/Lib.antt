@@ -6,6 +6,7 @@ pub mod Fix
 pub mod Verify
 pub mod Scan
 pub mod Read
+pub mod Turned
 pub mod Demo
 pub mod Asked
 pub mod Run

@@ -4,9 +4,9 @@
 mod commands;
 mod ending;
 mod faults;
-mod run;
+mod running;
 
-pub use run::run_one;
+pub use running::{run, run_one};
 
 #[cfg(test)]
 mod tests;

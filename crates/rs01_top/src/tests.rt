@@ -10,6 +10,9 @@ use std::test::Fail;
 
 mod demo;
 mod drives;
+mod layers;
+mod turns;
+mod workers;
 
 // The words of a line, parted by spaces.
 pub fn words_of(alloc: Global, line: &str) -> Result<Vec<String>, AllocError> {
@@ -75,7 +78,6 @@ fn words_that_give_no_work(rt: HostRuntime) -> Result<(), Fail> {
         ("create a b --workers 0", "rs01: word 4: out of range\n"),
         ("create a", "rs01: word 2: something is missing\n"),
         ("create a a", "rs01: word 2: the same name twice\n"),
-        ("read a --drive d --adaptive", "rs01: not built yet\n"),
         ("demo 1 300 32 301", "rs01: word 4: out of range\n"),
     ] {
         let mut desk = MemoryDesk::new(rt.alloc());

@@ -16,7 +16,7 @@ use rs01_report::{ReadReport, Status, put_read};
 use std::alloc::Global;
 
 // The status of a reading: done where no sector is lost.
-fn read_status(report: &ReadReport) -> Status
+pub fn read_status(report: &ReadReport) -> Status
     ensures { number_of result ≡ read_status report.now }
 {
     if report.lost.len() == 0 {

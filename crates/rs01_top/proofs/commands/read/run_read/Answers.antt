@@ -1,7 +1,7 @@
 use Rattle.std.proofs.Common.{◌∙◌, ap}
 use Rattle.rs01_top.specs.Run.{ended}
 use Rattle.rs01_top.proofs.Endings.{ends_by}
-use Rattle.rs01_top.proofs.Readings.{not_read_by, read_by}
+use Rattle.rs01_top.proofs.Linears.{not_read_by, read_by}
 use Rattle.rs01_top.proofs.commands.read.run_read.Goals as goal
 
 pub returns-in-Ok : goal.returns-in-Ok

@@ -1,0 +1,12 @@
+use Rattle.rs01_top.proofs.commands.adaptive.run_adaptive_one.Goals as goal
+
+pub returns : goal.returns
+returns g c = record {
+  run = c.tell_turned.ensures c.args.ecc c.args.tries _ _ _ _ (record {
+    works = c.read_adaptive_one-read.ensures.works;
+    lasts = c.read_adaptive_one-read.ensures.lasts;
+    causes = c.read_adaptive_one-read.ensures.causes;
+    refused = c.read_adaptive_one-read.ensures.refused;
+    told = c.read_adaptive_one-read.ensures.told;
+  });
+}

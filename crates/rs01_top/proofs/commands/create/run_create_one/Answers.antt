@@ -1,0 +1,4 @@
+use Rattle.rs01_top.proofs.commands.create.run_create_one.Goals as goal
+
+pub returns : goal.returns
+returns g c = record { run = c.tell_created.ensures c.args.image.now c.args.parity _ _ c.create_one-made.ensures }
