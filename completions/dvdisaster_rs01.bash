@@ -2,7 +2,7 @@
 _dvdisaster_rs01() {
     local word=${COMP_WORDS[COMP_CWORD]} before=${COMP_WORDS[COMP_CWORD-1]} options=""
     if [ "$COMP_CWORD" -eq 1 ]; then
-        mapfile -t COMPREPLY < <(compgen -W "create fix verify scan read demo" -- "$word")
+        mapfile -t COMPREPLY < <(compgen -W "create fix verify scan read demo --help --version" -- "$word")
         return
     fi
     case $before in

@@ -7,6 +7,8 @@ complete -c dvdisaster_rs01 -n "not __fish_seen_subcommand_from $commands" -a ve
 complete -c dvdisaster_rs01 -n "not __fish_seen_subcommand_from $commands" -a scan -d 'tell what a disc still gives'
 complete -c dvdisaster_rs01 -n "not __fish_seen_subcommand_from $commands" -a read -d 'read a disc into an image'
 complete -c dvdisaster_rs01 -n "not __fish_seen_subcommand_from $commands" -a demo -d 'make, damage and repair an image of numbers'
+complete -c dvdisaster_rs01 -l help -d 'tell all commands, or behind a command that one'
+complete -c dvdisaster_rs01 -n "not __fish_seen_subcommand_from $commands" -l version -d 'tell the version'
 complete -c dvdisaster_rs01 -n "__fish_seen_subcommand_from create" -l parity -x -a "normal high 8 16 32 64 100" -d 'parity bytes in a codeword of 255'
 complete -c dvdisaster_rs01 -n "__fish_seen_subcommand_from create fix read" -l workers -x -d 'threads, 1 to 32'
 complete -c dvdisaster_rs01 -n "__fish_seen_subcommand_from fix" -l cut -d 'cut off what follows the image'

@@ -1,22 +1,36 @@
-//! The program: hands the words, the files of the system and the standard output to `run_one`, and ends with its status.
+//! The program: hands the words, the files of the system and the standard output to `run`, and ends with its status.
 //!
 //! Words that can't be had end it with status 8, and with 7 where memory ran out.
 #![tactic(auto)]
 
+mod advice;
+mod causes;
+mod progress;
+mod standard_error;
+mod watching;
+
+use advice::{advise, tell_wordless};
+use rs01_help::Noted;
 use rs01_host::{FileDesk, FileDrive, StdSink};
-use rs01_outside::Drive;
+use rs01_outside::{Drive, OpenGate};
 use rs01_rack::Rack;
-use rs01_top::run_one;
+use rs01_top::run;
+use rs01_watch::{WatchedDesk, WatchedDrive, WatchedSink};
 use rs01_words::drive_names;
 use std::alloc::{AllocError, Global};
 use std::env;
+use std::fs::{self, File};
 use std::io::{self, ErrorKind};
 use std::process::ExitCode;
 use std::rt::Env;
+use watching::watcher;
 
 const NO_MEMORY: u8 = 7;
 
 const NO_WORDS: u8 = 8;
+
+// A file that takes a number and gives nothing. It is opened to be read, so a write to it fails as one to a closed stream.
+const NOTHING: &str = "/dev/null";
 
 // The grammar has no more drives in a line.
 const MOST_DRIVES: usize = 16;
@@ -57,25 +71,44 @@ fn words<R: Env + AllocGlobal>(rt: &R) -> Result<Vec<String>, u8> {
     Ok(words)
 }
 
+// Opens what takes the number of each standard stream that is closed. Else a file of the work would get it, and what is
+// told there would be written into that file.
+fn hold_streams(rt: &HostRuntime) -> [io::Result<File>; 3] {
+    [
+        fs::open(rt, NOTHING),
+        fs::open(rt, NOTHING),
+        fs::open(rt, NOTHING),
+    ]
+}
+
+// Copies for the files and for the output.
+fn copies(rt: &HostRuntime) -> Option<(HostRuntime, HostRuntime)> {
+    let files = rt.clone().ok()?;
+    let output = rt.clone().ok()?;
+    Some((files, output))
+}
+
+// Tells why there are no words, and ends with the status.
+fn end_wordless(rt: &HostRuntime, status: u8) -> ExitCode {
+    tell_wordless(status == NO_WORDS, rt.stderr());
+    ExitCode::from(status)
+}
+
 fn main(rt: HostRuntime) -> ExitCode {
+    let _held = hold_streams(&rt);
     let words = match words(&rt) {
         Ok(words) => words,
-        Err(status) => return ExitCode::from(status),
+        Err(status) => return end_wordless(&rt, status),
     };
     keep_freed_memory(rt.alloc());
-    let Ok(files) = rt.clone() else {
-        return ExitCode::from(NO_MEMORY);
-    };
-    let Ok(output) = rt.clone() else {
+    let Some((files, output)) = copies(&rt) else {
         return ExitCode::from(NO_MEMORY);
     };
     let mut desk = FileDesk::new(files);
-    if desk.reserve(&words).is_err() {
-        return ExitCode::from(NO_MEMORY);
-    }
-    let Ok(names) = drive_names(rt.alloc(), &words) else {
+    let (Ok(()), Ok(names)) = (desk.reserve(&words), drive_names(rt.alloc(), &words)) else {
         return ExitCode::from(NO_MEMORY);
     };
+    let watcher = watcher(&rt, &words);
     let mut drives: Vec<Box<dyn Drive>> = Vec::new(rt.alloc());
     for name in names {
         if drives.len() == MOST_DRIVES {
@@ -84,7 +117,8 @@ fn main(rt: HostRuntime) -> ExitCode {
         let Ok(files) = rt.clone() else {
             return ExitCode::from(NO_MEMORY);
         };
-        let Ok(drive) = Box::new(rt.alloc(), FileDrive::new(files, name)) else {
+        let drive = WatchedDrive::new(FileDrive::new(files, name), watcher.share());
+        let Ok(drive) = Box::new(rt.alloc(), drive) else {
             return ExitCode::from(NO_MEMORY);
         };
         if drives.push(drive).is_err() {
@@ -94,6 +128,10 @@ fn main(rt: HostRuntime) -> ExitCode {
     let Ok(mut rack) = Rack::new(rt.alloc(), drives) else {
         return ExitCode::from(NO_MEMORY);
     };
-    let mut out = StdSink::new(output);
-    ExitCode::from(run_one(rt.alloc(), &words, &mut desk, &mut rack, &mut out))
+    let (alloc, gate) = (rt.alloc(), OpenGate);
+    let mut desk = WatchedDesk::new(desk, watcher.share());
+    let mut out = Noted::new(WatchedSink::new(StdSink::new(output), watcher.share()));
+    let status = run(&rt, alloc, &words, &mut desk, &mut rack, &mut out, &gate);
+    advise(&rt, &words, status, watcher.report(), out.heads());
+    ExitCode::from(status)
 }

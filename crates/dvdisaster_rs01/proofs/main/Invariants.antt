@@ -2,4 +2,4 @@ use Rattle.std.proofs.Common.{◌≤◌, length}
 use Rattle.dvdisaster_rs01.proofs.main.Given as goal
 
 abbrev pub invariant-loop-name : goal.invariant-loop-name
-invariant-loop-name l = length l.drives.items ≤ 16
+invariant-loop-name g l = length l.drives.items ≤ 16

@@ -1,0 +1,19 @@
+//! Whether a person watches.
+use crate::progress::Watcher;
+use std::env;
+use std::io::IsTerminal;
+
+// Where this is set, no progress is told.
+const QUIET: &str = "RS01_QUIET";
+
+/// Who is told of calls: at a terminal, and where it isn't to be quiet, a line that tells how far the work has come.
+pub(crate) fn watcher(rt: &HostRuntime, words: &[String]) -> Watcher {
+    let stream = rt.stderr();
+    if !stream.is_terminal() || env::var(rt, QUIET).is_ok() {
+        return Watcher::idle();
+    }
+    match rt.clone() {
+        Ok(clock) => Watcher::new(clock, stream, words),
+        Err(_) => Watcher::idle(),
+    }
+}
