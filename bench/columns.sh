@@ -1,7 +1,7 @@
 #!/bin/sh
-# Times `create` and `fix` beside dvdisaster's method RS01 on one random image, for 32, 64 and 100 parity bytes: the
-# image whole, and with one sector in twenty, all in a row, overwritten by zeros. Prints how many times the peer's
-# speed the program has. md5sum of the image stands beside both.
+# Times `create` and `fix` by one worker beside dvdisaster's method RS01 on one random image, for 32, 64 and 100 parity
+# bytes: the image whole, and with one sector in twenty, all in a row, overwritten by zeros. Prints how many times the
+# peer's speed the program has. md5sum of the image stands beside both.
 # Usage: bench/columns.sh [MEBIBYTES]
 # The peer is Debian's package dvdisaster; where it isn't installed, its columns say so.
 . "$(dirname "$0")/common.sh"
@@ -46,18 +46,18 @@ clock 0 md5sum "$image" || { echo "md5sum failed"; exit 1; }
 digest=$took
 for parity in 32 64 100; do
     from=$original
-    clock 0 "$program" create "$image" "$ecc" --parity "$parity" || { echo "create failed"; exit 1; }
+    clock 0 "$program" create "$image" "$ecc" --parity "$parity" --workers 1 || { echo "create failed"; exit 1; }
     ours=$took
     peer -mRS01 -n "$parity" -c
     line "$parity" create "$ours" "$digest" "$took"
-    clock 0 "$program" fix "$image" "$ecc" || { echo "fix failed"; exit 1; }
+    clock 0 "$program" fix "$image" "$ecc" --workers 1 || { echo "fix failed"; exit 1; }
     ours=$took
     peer -f
     line "$parity" 'fix whole' "$ours" "$digest" "$took"
     from=$damaged
     peer -f
     theirs=$took
-    clock 0 "$program" fix "$image" "$ecc" || { echo "fix failed"; exit 1; }
+    clock 0 "$program" fix "$image" "$ecc" --workers 1 || { echo "fix failed"; exit 1; }
     cmp "$original" "$image" || { echo "fix gave another image"; exit 1; }
     line "$parity" 'fix damaged' "$took" "$digest" "$theirs"
 done
