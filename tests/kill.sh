@@ -169,10 +169,9 @@ row fix
 # Reads, from a drive that has all sectors or too few, with and without the error correction file, into a name that
 # isn't there or onto a damaged image.
 head -c $((bytes - bytes / 8)) good.iso >short.iso
-ways="linear adaptive"
 begin_rows
 for round in $(seq "$rounds"); do
-    set -- $ways
+    set -- linear adaptive
     shift $((round % $#))
     words="--jump $(between 1 3)"
     [ "$1" = linear ] || words="--adaptive --workers $(between 1 4)"

@@ -83,7 +83,6 @@ damage() {
     esac
 }
 
-ways="--adaptive"
 runs=0
 lossless=0
 for round in $(seq "$rounds"); do
@@ -118,7 +117,7 @@ for round in $(seq "$rounds"); do
         same one.file good.iso || wrong "$turn: a repaired image isn't the original" start.iso start.ecc one.file
     fi
 
-    for way in "" $ways; do
+    for way in "" --adaptive; do
         with_workers "$turn, read $way" made.iso read made.iso start.ecc --drive good.iso $way
         head -c "$bytes" one.file | same - good.iso || wrong "$turn: an image that was read isn't that of the drive" start.iso start.ecc
         # A drive that has too few sectors, and the damaged image there already.
