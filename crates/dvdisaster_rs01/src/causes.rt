@@ -5,8 +5,8 @@ use std::fs;
 use std::io::ErrorKind;
 use std::os::unix::fs::FileTypeExt;
 
-// Puts why a name can't be opened, where it can't. One that isn't there is told only where it has to be. What is neither
-// a file nor a block device is never opened, since opening a pipe would wait.
+// Puts why a name can't be opened, where it can't. One that isn't there is told only where it has to be. What is
+// neither a file nor a block device is never opened, since opening a pipe would wait.
 fn tell_name<S: Sink>(rt: &HostRuntime, name: &str, is_wanted: bool, out: &mut S) {
     let error = match fs::metadata(rt, name) {
         Err(error) => Some(error),
@@ -32,8 +32,8 @@ fn tell_name<S: Sink>(rt: &HostRuntime, name: &str, is_wanted: bool, out: &mut S
     }
 }
 
-// The places of the names of an image and of its file.
-fn places(command: &Command) -> (Option<usize>, Option<usize>) {
+/// The places of the names of an image and of its file.
+pub(crate) fn places(command: &Command) -> (Option<usize>, Option<usize>) {
     match command {
         Command::Create { image, ecc, .. } => (Some(*image), Some(*ecc)),
         Command::Fix { image, ecc, .. } => (Some(*image), Some(*ecc)),

@@ -29,7 +29,8 @@ const NO_MEMORY: u8 = 7;
 
 const NO_WORDS: u8 = 8;
 
-// A file that takes a number and gives nothing. It is opened to be read, so a write to it fails as one to a closed stream.
+// A file that takes a number and gives nothing. It is opened to be read, so a write to it fails as one to a closed
+// stream.
 const NOTHING: &str = "/dev/null";
 
 // The grammar has no more drives in a line.

@@ -1,4 +1,5 @@
 //! How far the work has come: one line at a terminal, rewritten about twice a second.
+use crate::causes::places;
 use rs01_help::{Asks, bytes_line, sectors_line};
 use rs01_watch::Observer;
 use rs01_words::{Command, read_words, word_at};
@@ -134,13 +135,13 @@ impl Progress {
     }
 }
 
-// How often the image and its file are read whole, and the places of their names.
-fn sources(command: &Command) -> (u64, Option<usize>, u64, Option<usize>) {
+// How often the image and its file are read whole.
+fn readings(command: &Command) -> (u64, u64) {
     match command {
-        Command::Create { image, ecc, .. } => (2, Some(*image), 0, Some(*ecc)),
-        Command::Fix { image, ecc, .. } => (1, Some(*image), 2, Some(*ecc)),
-        Command::Verify { image, ecc } => (1, Some(*image), 1, Some(*ecc)),
-        _ => (0, None, 0, None),
+        Command::Create { .. } => (2, 0),
+        Command::Fix { .. } => (1, 2),
+        Command::Verify { .. } => (1, 1),
+        _ => (0, 0),
     }
 }
 
@@ -156,7 +157,8 @@ fn name_at(alloc: Global, words: &[String], place: Option<usize>) -> Result<Stri
 fn begin(rt: HostRuntime, stream: Stderr, words: &[String]) -> Option<Progress> {
     let started = Instant::now(&rt).ok()?;
     let command = read_words(words).ok()?;
-    let (image_reads, image, ecc_reads, ecc) = sources(&command);
+    let (image_reads, ecc_reads) = readings(&command);
+    let (image, ecc) = places(&command);
     let image = name_at(rt.alloc(), words, image).ok()?;
     let ecc = name_at(rt.alloc(), words, ecc).ok()?;
     Some(Progress {
