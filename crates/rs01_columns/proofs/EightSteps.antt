@@ -10,10 +10,10 @@ use Rattle.rs01_columns.specs.declared.program.Step.{Step}
 use Rattle.rs01_columns.specs.declared.program.FourSteps.{FourSteps}
 use Rattle.rs01_columns.specs.declared.adding.FourTables.{FourTables}
 
-elsewhere : (s : Step) (f : ℕ → ℕ) (k : ℕ) → (k ≡ s.into → ⊥) → stepped s f k ≡ f k
+pub elsewhere : (s : Step) (f : ℕ → ℕ) (k : ℕ) → (k ≡ s.into → ⊥) → stepped s f k ≡ f k
 elsewhere s f k ne = cond-false (eqb k s.into) _ (f k) (ne_eqb k s.into ne)
 
-here : (s : Step) (f : ℕ → ℕ) (k : ℕ) → s.fresh ≡ false → k ≡ s.into → stepped s f k ≡ bit_xor (f k) (times s.factor (f s.from))
+pub here : (s : Step) (f : ℕ → ℕ) (k : ℕ) → s.fresh ≡ false → k ≡ s.into → stepped s f k ≡ bit_xor (f k) (times s.factor (f s.from))
 here s f k adds same =
     cond-true (eqb k s.into) _ (f k) (eq-eqb k s.into same) ∙ ap (λ b. bit_xor (cond b 0 (f k)) (times s.factor (f s.from))) adds
 

@@ -10,3 +10,7 @@ pub mod UnitPlaces
 pub mod UnitWords
 pub mod LinearPrograms
 pub mod Known
+pub mod Riffles
+pub mod Turned
+pub mod Chained
+pub mod Grouped

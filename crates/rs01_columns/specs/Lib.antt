@@ -8,3 +8,5 @@ pub mod Certificate
 pub mod Layer
 pub mod Keeping
 pub mod Scan
+pub mod Turning
+pub mod Fifteen

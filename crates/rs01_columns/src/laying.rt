@@ -1,10 +1,12 @@
 //! The bytes of a layer, laid into a bank and read from it.
 
-ghost use Rattle.std.specs.Prelude.{◌≡◌, ℕ, ◌+◌, ◌-◌, ◌*◌, ◌≤◌, length, slice_index};
+ghost use Rattle.std.specs.Prelude.{◌≡◌, ℕ, ◌+◌, ◌-◌, ◌*◌, ◌/◌, ◌<◌, ◌≤◌, length, slice_index};
 ghost use Rattle.rs01_columns.specs.Bank.{IsInBank, LaneHolds, LaneHoldsFrom, LanesHoldParity, OnlyColumns, OnlyInLane, lane};
 ghost use Rattle.rs01_columns.specs.Certificate.{LanesHold};
 ghost use Rattle.rs01_columns.specs.Layer.{ArePartBlocks, IsPart, IsPartParity, data_at, word_at};
 ghost use Rattle.rs01_columns.specs.Ranges.{IsCopied, OnlyHere, SameBefore};
+
+use crate::turning::lay_square;
 
 /// Copies so many bytes.
 pub fn copy(into: &mut [u8], to: usize, from: &[u8], at: usize, count: usize)
@@ -47,6 +49,64 @@ fn lay_lane(bank: &mut [u8], l: usize, k: usize, bytes: &[u8])
     }
 }
 
+// Lays sixteen columns of the parity of the codewords from `first` on, from column `c` of the parity on, sixteen
+// codewords at a time.
+fn lay_sixteen(
+    bank: &mut [u8],
+    parity: &[u8],
+    first: usize,
+    r: usize,
+    c: usize,
+    square: &mut [u8],
+    spare: &mut [u8],
+)
+    requires parity { IsPartParity r first parity.now }
+    requires room { 1088 * 255 ≤ length bank.old }
+    requires c { c + 16 ≤ r }
+    requires square { length square.old ≡ 256 }
+    requires spare { length spare.old ≡ 256 }
+    ensures here { (l j : ℕ) → l < 1024 → c ≤ j → j < c + 16
+        → lane bank.new l (255 - r + j) ≡ slice_index parity.now ((first + l) * r + j) }
+    ensures rest { OnlyColumns bank.old bank.new (255 - r + c) (255 - r + c + 16) }
+{
+    for b in 0..64usize {
+        let codeword = first + 16 * b;
+        let to = 1088 * (255 - r + c) + 16 * b;
+        lay_square(bank, to, parity, codeword * r + c, r, square, spare);
+    }
+}
+
+// Lays the columns of the parity that make whole sixteens.
+fn lay_sixteens(bank: &mut [u8], parity: &[u8], first: usize, r: usize)
+    requires parity { IsPartParity r first parity.now }
+    requires room { 1088 * 255 ≤ length bank.old }
+    ensures here { (l j : ℕ) → l < 1024 → j < 16 * (r / 16)
+        → lane bank.new l (255 - r + j) ≡ slice_index parity.now ((first + l) * r + j) }
+    ensures rest { OnlyColumns bank.old bank.new (255 - r) (255 - r + 16 * (r / 16)) }
+{
+    let mut square = [0u8; 256];
+    let mut spare = [0u8; 256];
+    for s in 0..r / 16 {
+        lay_sixteen(bank, parity, first, r, 16 * s, &mut square, &mut spare);
+    }
+}
+
+// Lays the columns of the parity from column `c` on.
+fn lay_others(bank: &mut [u8], parity: &[u8], first: usize, r: usize, c: usize)
+    requires parity { IsPartParity r first parity.now }
+    requires room { 1088 * 255 ≤ length bank.old }
+    requires c { c ≤ r }
+    ensures here { (l j : ℕ) → l < 1024 → j < r - c
+        → lane bank.new l (255 - r + c + j) ≡ slice_index parity.now ((first + l) * r + c + j) }
+    ensures rest { OnlyColumns bank.old bank.new (255 - r + c) 255 }
+{
+    for l in 0..1024usize {
+        let codeword = first + l;
+        let from = codeword * r;
+        lay_lane(bank, l, 255 - r + c, &parity[from + c..from + r]);
+    }
+}
+
 // Lays the parity of the codewords from `first` on into the columns behind the data.
 fn lay_parity(bank: &mut [u8], parity: &[u8], first: usize, r: usize)
     requires parity { IsPartParity r first parity.now }
@@ -54,10 +114,10 @@ fn lay_parity(bank: &mut [u8], parity: &[u8], first: usize, r: usize)
     ensures here { LanesHoldParity bank.new r first parity.now }
     ensures rest { OnlyColumns bank.old bank.new (255 - r) 255 }
 {
-    for l in 0..1024usize {
-        let codeword = first + l;
-        let from = codeword * r;
-        lay_lane(bank, l, 255 - r, &parity[from..from + r]);
+    lay_sixteens(bank, parity, first, r);
+    let c = 16 * (r / 16);
+    if c < r {
+        lay_others(bank, parity, first, r, c);
     }
 }
 

@@ -10,6 +10,8 @@ ghost use Rattle.rs01_columns.specs.Program.{begun, meaning, raised, stepped};
 use crate::adding::{
     EightTables, FourPlaces, TwoPlaces, add_column, add_eight, add_four, tables_of,
 };
+use crate::fifteen::transform_tables;
+use crate::group::{group_at, transform_group};
 use crate::products::Products;
 use crate::program::{FourSteps, Program, Step};
 
@@ -171,13 +173,17 @@ fn four_at(program: &Program, place: usize) -> FourSteps
     }
 }
 
-// Runs the step at this place, or four or eight from it on where they go together, and gives the
-// place after them.
+// Runs the steps from this place on that transform fifteen columns, if they do, and else the step
+// at this place, or four or eight from it on where they go together. Gives the place after them.
 fn advance(program: &Program, place: usize, bank: &mut [u8], products: &Products) -> usize
     requires place { place < length program.now.steps.items }
     requires bank { IsBank program.now.columns bank.old }
     ensures { Advances program.now.steps.items place result bank.old bank.new }
 {
+    if let Some(group) = group_at(&program.steps, place) {
+        transform_group(bank, group, transform_tables(products));
+        return place + 76;
+    }
     let left = program.steps.len() - place;
     if left >= 8 {
         let four = four_at(program, place);

@@ -47,8 +47,9 @@ fn by_high(table: u8x16, v: u8x16) -> u8x16
     table.swizzle_dyn(v >> u8x16::splat(4))
 }
 
+/// Adds sixteen bytes to sixteen others.
 #[inline(always)]
-fn sum(a: u8x16, b: u8x16) -> u8x16
+pub fn sum(a: u8x16, b: u8x16) -> u8x16
     requires a { length a ≡ 16 }
     requires b { length b ≡ 16 }
     ensures { HasLanes result (λ k. bit_xor (slice_index a k) (slice_index b k)) }

@@ -10,8 +10,8 @@ use crate::draft::{Draft, VALUES};
 use rs01_gf256::{Gf, pow_root};
 use std::alloc::AllocError;
 
-// The place of the numbers a below 3, b below 5 and c below 17.
-fn place(a: u16, b: u16, c: u16) -> u16
+/// The place of the numbers a below 3, b below 5 and c below 17.
+pub fn place(a: u16, b: u16, c: u16) -> u16
     requires a { a < 3 }
     requires b { b < 5 }
     requires c { c < 17 }
