@@ -15,7 +15,7 @@ use Rattle.rs01_poly.specs.Code.{root, IsCodeword, AgreeOutside}
 use Rattle.rs01_poly.proofs.Difference.{codewords_agree}
 use Rattle.rs01_erase.specs.Completion.{is_codeword, byte_values, first_found, completion}
 use Rattle.rs01_erase.proofs.Elimination.{bytes_of_all}
-use Rattle.rs01_erase.proofs.Places.{later_outside}
+use Rattle.rs01_erase.proofs.PlaceLemmas.{later_outside}
 
 passes : (p : ℕ → Bool) (xs : List ℕ) (k : ℕ) → list_all p xs ≡ true → k < length xs → p (get_or xs k 0) ≡ true
 passes p [] k e h = absurd (omega arith)

@@ -1,5 +1,5 @@
 -- The erased places of a layer: they rise, they are places, and they are those whose flag is set.
-use Rattle.std.proofs.Common.{◌≡◌, ℕ, ◌+◌, ◌<◌, List, length, get_or, sym, ◌∙◌, arith, Bool, true, false, ⊎_elim}
+use Rattle.std.proofs.Common.{◌≡◌, ℕ, ◌+◌, ◌<◌, ◌≤◌, List, length, get_or, sym, ◌∙◌, arith, Bool, true, false, ⊎_elim}
 use Rattle.std.specs.List.{range_with_len, All, Contains}
 use Rattle.std.specs.List.Sorted.{IsStrictlyIncreasing}
 use Rattle.std.proofs.lemmas.Bool.{cases_lt, false≢true, false_from_ne_true}
@@ -7,6 +7,7 @@ use Rattle.std.proofs.lemmas.List.{get_or_past, get_or_default}
 use Rattle.std.proofs.lemmas.List.Elements.{All-get_or, All-from_get_or, All-filter, filter_passes}
 use Rattle.std.proofs.lemmas.List.FromFn.{length-range_with_len, get_or-range_with_len}
 use Rattle.std.proofs.lemmas.List.Kept.{IsStrictlyIncreasing-filter}
+use Rattle.rs01_erase.specs.Completion.{ArePlaces}
 use Rattle.rs01_erase.specs.LayerValue.{erased_places}
 use Rattle.rs01_erase.proofs.Found.{kept}
 
@@ -36,6 +37,13 @@ erased_below flags =
 
 pub erased_below_at : (flags : List Bool) (k : ℕ) → k < length (erased_places flags) → get_or (erased_places flags) k 0 < length flags
 erased_below_at flags k h = All-get_or (λ p. p < length flags) (erased_places flags) k 0 h (erased_below flags)
+
+-- the erased places of at most 255 flags are places of a codeword
+pub flagged_are_places : (flags : List Bool) → length flags ≤ 255 → ArePlaces (erased_places flags)
+flagged_are_places flags few = record {
+  rising = erased_rise flags;
+  below = All-from_get_or (λ p. p < 255) (erased_places flags) 0 (λ k h. omega (arith, erased_below_at flags k h, few));
+}
 
 -- the flag of an erased place is set
 pub erased_flagged : (flags : List Bool) (k : ℕ) → k < length (erased_places flags) → get_or flags (get_or (erased_places flags) k 0) false ≡ true

@@ -1,5 +1,5 @@
 pub mod Elimination
-pub mod Places
+pub mod PlaceLemmas
 pub mod Completions
 pub mod Found
 pub mod ErasedPlaces

@@ -9,7 +9,8 @@ ghost use Rattle.rs01_erase.specs.Completed.{AreBlocksAt, AreCompleted};
 ghost use Rattle.rs01_erase.specs.Correcting.{correct};
 ghost use Rattle.rs01_erase.specs.Restoring.{AreErased, AreFilled};
 
-use crate::correct::{PlainCorrectTask, answer_restored, complete, find_erased, restore_places};
+use crate::correct::{PlainCorrectTask, answer_restored, complete, restore_places};
+use crate::places::places_of;
 use rs01_columns::LayerSyndromes;
 use rs01_layers::{LayerInput, LayerOut, LayerTask};
 use std::alloc::{AllocError, Global};
@@ -70,7 +71,7 @@ fn work_by_columns(
         return PlainCorrectTask.work(alloc, input);
     }
     let mut room = [0u8; 255];
-    let count = find_erased(input.erased.items(), &mut room);
+    let count = places_of(input.erased.items(), &mut room);
     if count > input.parity_count as usize {
         return Ok(LayerOut::Beyond(count as u32));
     }

@@ -5,6 +5,7 @@ ghost use Rattle.rs01_erase.specs.Correcting.{blocks_in, correct};
 ghost use Rattle.rs01_erase.specs.LayerValue.{erased_places, word_of};
 ghost use Rattle.rs01_erase.specs.Restoring.{AreErased, HoldsCodeword, HoldsCodewords, HoldsOthers, HoldsWord, bad_sum_in, block_in, completed_at, placed_blocks, word_if};
 
+use crate::places::places_of;
 use crate::restore::restore_codeword;
 use rs01_layers::{
     Bytes, LayerInput, LayerOut, LayerTask, Placed, PlacedList, column_of_blocks_into,
@@ -24,28 +25,12 @@ impl LayerTask for PlainCorrectTask {
 
     fn work(&self, alloc: Global, input: &LayerInput) -> Result<LayerOut, AllocError> {
         let mut room = [0u8; 255];
-        let count = find_erased(input.erased.items(), &mut room);
+        let count = places_of(input.erased.items(), &mut room);
         if count > input.parity_count as usize {
             return Ok(LayerOut::Beyond(count as u32));
         }
         restore_places(alloc, input, &room[..count])
     }
-}
-
-/// Writes the places whose flag is set, and gives their number.
-pub fn find_erased(flags: &[bool], places: &mut [u8; 255]) -> usize
-    requires { length flags.now ≤ 255 }
-    ensures places { take result places.new ≡ erased_places flags.now }
-    ensures count { result ≡ length (erased_places flags.now) }
-{
-    let mut count = 0;
-    for (place, flag) in flags.iter().enumerate() {
-        if *flag {
-            places[count] = place as u8;
-            count += 1;
-        }
-    }
-    count
 }
 
 // Writes a codeword: its byte of each block, and its parity.

@@ -10,12 +10,14 @@ mod correct;
 pub mod laws;
 pub mod laws_of_correcting;
 mod pattern;
+mod places;
 mod power_sums;
 mod restore;
 
 pub use by_columns::CorrectTask;
 pub use correct::PlainCorrectTask;
 pub use pattern::{Disagree, Pattern, PatternRefusal};
+pub use places::{are_places, places_of};
 pub use restore::{EraseRefusal, restore_codeword};
 
 #[cfg(test)]

@@ -1,7 +1,6 @@
 //! Restoring words, worked and random.
 
-ghost use Rattle.std.specs.Prelude.{◌≡◌, ℕ, ◌+◌, ◌-◌, ◌<◌, ◌≤◌, All, IsTrue, length};
-ghost use Rattle.std.specs.List.Sorted.{IsStrictlyIncreasing};
+ghost use Rattle.std.specs.Prelude.{◌≡◌, ℕ, ◌+◌, ◌-◌, ◌≤◌, length};
 
 use super::*;
 use rs01_gf256::Gf;
@@ -10,19 +9,6 @@ use std::process::Abort;
 use std::test::Fail;
 
 mod correcting;
-
-// Whether these are places of a codeword, and rise.
-fn are_places(places: &[u8]) -> bool
-    ensures rising { IsTrue result → IsStrictlyIncreasing places.now }
-    ensures below { IsTrue result → All (λ p. p < 255) places.now }
-{
-    for k in 0..places.len() {
-        if places[k] == 255 || (k > 0 && places[k - 1] >= places[k]) {
-            return false;
-        }
-    }
-    true
-}
 
 // The bytes of a linear congruential generator.
 fn next_byte(state: &mut u64) -> u8 {
@@ -223,4 +209,49 @@ fn patterns_that_do_not_fit(rt: HostRuntime) -> Result<(), Fail> {
     assert_eq!(rt; pattern.restore(&mut word), Err(Disagree));
     assert_eq!(rt; (word[0], word[1]), (1, 0));
     Ok(())
+}
+
+#[test]
+fn lists_of_places(rt: HostRuntime) {
+    for (places, wanted) in [
+        (b"".as_slice(), true),
+        (b"\x00".as_slice(), true),
+        (b"\xfe".as_slice(), true),
+        (b"\xff".as_slice(), false),
+        (b"\x00\x01\xfe".as_slice(), true),
+        (b"\x03\x03".as_slice(), false),
+        (b"\x04\x03".as_slice(), false),
+        (b"\x00\x05\x02".as_slice(), false),
+        (b"\x00\xfe\xff".as_slice(), false),
+    ] {
+        assert_eq!(rt; are_places(places), wanted);
+    }
+}
+
+// The flags of 255 places, of which these two are set, give the places that are wanted.
+fn check_flagged(rt: &impl Abort, first: usize, second: usize, wanted: &[u8]) {
+    let mut flags = [false; 255];
+    if first < 255 {
+        flags[first] = true;
+    }
+    if second < 255 {
+        flags[second] = true;
+    }
+    let mut places = [0u8; 255];
+    let count = places_of(&flags, &mut places);
+    assert!(rt; &places[..count] == wanted);
+}
+
+#[test]
+fn flagged_places(rt: HostRuntime) {
+    check_flagged(&rt, 255, 255, b"");
+    check_flagged(&rt, 0, 255, b"\x00");
+    check_flagged(&rt, 254, 3, b"\x03\xfe");
+    check_flagged(&rt, 7, 7, b"\x07");
+    let mut places = [9u8; 255];
+    assert_eq!(rt; places_of(&[true; 255], &mut places), 255);
+    assert_eq!(rt; (places[0], places[100], places[254]), (0, 100, 254));
+    assert_eq!(rt; places_of(&[], &mut places), 0);
+    assert_eq!(rt; places_of(&[false, true], &mut places), 1);
+    assert_eq!(rt; places[0], 1);
 }

@@ -5,7 +5,7 @@ use Rattle.rs01_gf256.specs.Field.{times}
 use Rattle.rs01_poly.proofs.Values.{AllBytes}
 use Rattle.rs01_erase.specs.PowerSums.{power_sum}
 use Rattle.rs01_erase.proofs.Elimination.{empty_sum, quotient, power_sum_more}
-use Rattle.rs01_erase.proofs.Places.{AllBytes-set}
+use Rattle.rs01_erase.proofs.PlaceLemmas.{AllBytes-set}
 use Rattle.rs01_erase.proofs.power_sums.divide.Goals as goal
 
 one_more : (old xs locs : List ℕ) (k q x : ℕ) → k < length locs → length xs ≡ length locs → times q (bit_xor (get_or locs k 0) x) ≡ get_or old k 0

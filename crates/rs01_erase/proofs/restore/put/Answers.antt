@@ -8,7 +8,7 @@ use Rattle.rs01_gf256.proofs.Logarithms.{power-power}
 use Rattle.rs01_poly.specs.Code.{AgreeOutside}
 use Rattle.rs01_erase.specs.PowerSums.{locator, weighted}
 use Rattle.rs01_erase.proofs.Elimination.{quotient}
-use Rattle.rs01_erase.proofs.Places.{Rises, rises, power_some, AllBytes-set}
+use Rattle.rs01_erase.proofs.PlaceLemmas.{Rises, rises, power_some, AllBytes-set}
 use Rattle.rs01_erase.proofs.restore.put.Goals as goal
 
 -- the 112th power of a place's locator

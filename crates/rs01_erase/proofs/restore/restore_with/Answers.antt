@@ -11,7 +11,7 @@ use Rattle.rs01_poly.proofs.Values.{AllBytes}
 use Rattle.rs01_erase.specs.Completion.{IsRestored, completion}
 use Rattle.rs01_erase.specs.PowerSums.{locator, weighted, power_sum, ArePowerSums, AreValues}
 use Rattle.rs01_erase.proofs.Elimination.{bytes_of_all, moved}
-use Rattle.rs01_erase.proofs.Places.{rises, locator_below, locators_differ, value_by_places}
+use Rattle.rs01_erase.proofs.PlaceLemmas.{rises, locator_below, locators_differ, value_by_places}
 use Rattle.rs01_erase.proofs.Completions.{completion-completes, completion-is, completion-none}
 use Rattle.rs01_erase.proofs.restore.restore_with.Goals as goal
 

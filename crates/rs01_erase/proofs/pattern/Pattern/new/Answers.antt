@@ -1,5 +1,5 @@
 use Rattle.std.proofs.Common.{arith}
-use Rattle.rs01_erase.proofs.Places.{at_most_255}
+use Rattle.rs01_erase.proofs.PlaceLemmas.{at_most_255}
 use Rattle.rs01_erase.proofs.pattern.Pattern.new.Goals as goal
 
 pub overflow_cast-result : goal.overflow_cast-result

@@ -1,6 +1,6 @@
 use Rattle.std.proofs.Common.{◌≡◌, ◌≤◌, length, get_or, take, false}
 use Rattle.std.specs.List.{filter, range_with_len}
-use Rattle.rs01_erase.proofs.correct.find_erased.Given as goal
+use Rattle.rs01_erase.proofs.places.places_of.Given as goal
 
 -- the first places are the erased ones among those seen so far
 abbrev pub invariant-loop-place : goal.invariant-loop-place

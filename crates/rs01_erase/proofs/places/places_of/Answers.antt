@@ -1,8 +1,10 @@
-use Rattle.std.proofs.Common.{get_or, length, ap, ◌∙◌, arith, false}
+use Rattle.std.proofs.Common.{get_or, length, ap, ◌∙◌, arith, false, subst, sym}
 use Rattle.std.proofs.lemmas.List.{length-set, length-take}
+use Rattle.rs01_erase.specs.Completion.{ArePlaces}
+use Rattle.rs01_erase.proofs.ErasedPlaces.{flagged_are_places}
 use Rattle.rs01_erase.proofs.RestoringLemmas.{one_more_found, none_more_found, all_found}
-use Rattle.rs01_erase.proofs.correct.find_erased.Goals as goal
-use Rattle.rs01_erase.proofs.correct.find_erased.Goals.{then-flag, else-flag}
+use Rattle.rs01_erase.proofs.places.places_of.Goals as goal
+use Rattle.rs01_erase.proofs.places.places_of.Goals.{then-flag, else-flag}
 
 pub loop-place-preserved : goal.loop-place-preserved
 loop-place-preserved c =
@@ -26,3 +28,8 @@ pub returns-clause-count : goal.returns-clause-count
 returns-clause-count c =
     let found = all_found c.args.flags.now c.loop-place.places c.loop-place.count c.loop-place.place (omega arith) c.loop-place.invariant.found in
     omega (arith, length-take c.loop-place.count c.loop-place.places, ap length found)
+
+pub returns-clause-sound : goal.returns-clause-sound
+returns-clause-sound c =
+    let found = all_found c.args.flags.now c.loop-place.places c.loop-place.count c.loop-place.place (omega arith) c.loop-place.invariant.found in
+    subst ArePlaces (sym found) (flagged_are_places c.args.flags.now c.requires)
