@@ -6,7 +6,7 @@ use Rattle.rs01_outside.specs.DeskState.{DeskState, OnlyChanges, OnlyReads, Work
 use Rattle.rs01_outside.specs.Files.{Becomes, Files, bytes_of}
 use Rattle.rs01_outside.proofs.States.{works-changes, works-reads, works-then}
 use Rattle.rs01_outside.specs.declared.Failed.{Failed}
-use Rattle.rs01_ecchead.specs.EccFile.{head_fields}
+use Rattle.rs01_ecchead.specs.EccFile.{head_fields, sum_bytes}
 use Rattle.rs01_ecchead.specs.Header.{head_bytes}
 use Rattle.rs01_report.specs.declared.reports.CreateReport.{CreateReport}
 use Rattle.rs01_create.specs.Answer.{Answers, Creates, IsOfMaking, Leaves, LeavesUnder, Makes, is_read_fault, is_write_fault}
@@ -15,6 +15,7 @@ use Rattle.rs01_create.specs.Create.{refusal_of}
 use Rattle.rs01_create.specs.Creating.{AreAdded, IsCreate, IsStarted, IsWorked}
 use Rattle.rs01_create.specs.Ending.{Ends, IsWhole, TellsEnd}
 use Rattle.rs01_create.specs.Looking.{IsFoundOf, LooksAt}
+use Rattle.rs01_layers.specs.Extents.{IsExtentOf}
 use Rattle.rs01_create.specs.Making.{CountsAs, IsQuiet, Leads, Moment, faults_of, moment}
 use Rattle.rs01_create.specs.Unfinished.{IsUnfinished}
 use Rattle.rs01_create.specs.declared.course.Course.{Course}
@@ -134,17 +135,38 @@ found_at image old seen found reads accepts t =
     let t0 = subst IsTrue reads.tells t in
     subst (λ (f : Files). IsFoundOf (bytes_of f image) found) (sym (reads.unchanged t0)) (accepts t0).found_is
 
+summed_at : (image : List ℕ) (old seen : DeskState) (sums : List ℕ) → OnlyReads old seen false → (IsTrue old.tells → sums ≡ sum_bytes (bytes_of old.files image))
+    → IsTrue seen.tells → sums ≡ sum_bytes (bytes_of seen.files image)
+summed_at image old seen sums reads summed t =
+    let t0 = subst IsTrue reads.tells t in
+    subst (λ (f : Files). sums ≡ sum_bytes (bytes_of f image)) (sym (reads.unchanged t0)) (summed t0)
+
+-- what was found of an image stays so when the checksums are let go
+pub let_go : (old : DeskState) (image : List ℕ) (one other : Found) → LooksAt old image (Ok one) → other.plan ≡ one.plan → other.image_sum ≡ one.image_sum
+    → other.fingerprint ≡ one.fingerprint → LooksAt old image (Ok other)
+let_go old image one other accepts plan image_sum fingerprint t =
+    let is = accepts t in
+    record {
+      there = is.there;
+      accepted = is.accepted;
+      found_is = record {
+        extended = subst (λ (p : Plan). IsExtentOf (bytes_of old.files image) p.extent) (sym plan) is.found_is.extended;
+        image_sum = image_sum ∙ is.found_is.image_sum;
+        fingerprint = fingerprint ∙ is.found_is.fingerprint;
+      };
+    }
+
 -- the file was begun
-pub is_started : (image ecc : List ℕ) (r : ℕ) (old seen now : DeskState) (found : Found) (course : Course) → image ≢ ecc → OnlyReads old seen false → LooksAt old image (Ok found)
-    → found.plan.shape.parity ≡ r → OnlyChanges ecc seen now false → (IsTrue seen.tells → Becomes ecc (zeros 4096 ++ found.sums.items) seen.files now.files)
-    → IsStart found.sums.items course → IsStarted image ecc r old now found course
-is_started image ecc r old seen now found course apart reads accepts parity changes begun start = record {
+pub is_started : (image ecc : List ℕ) (r : ℕ) (old seen now : DeskState) (found : Found) (sums : List ℕ) (course : Course) → image ≢ ecc → OnlyReads old seen false
+    → LooksAt old image (Ok found) → (IsTrue old.tells → sums ≡ sum_bytes (bytes_of old.files image)) → found.plan.shape.parity ≡ r → OnlyChanges ecc seen now false
+    → (IsTrue seen.tells → Becomes ecc (zeros 4096 ++ sums) seen.files now.files) → IsStart sums course → IsStarted image ecc r old now found course
+is_started image ecc r old seen now found sums course apart reads accepts summed parity changes begun start = record {
   seen = seen;
   reads = reads;
   accepts = accepts;
   parity = parity;
   changes = changes;
-  work = at_start image ecc seen now found course apart (found_at image old seen found reads accepts) changes begun start;
+  work = at_start image ecc seen now found sums course apart (found_at image old seen found reads accepts) (summed_at image old seen sums reads summed) changes begun start;
   none = start.next ∙ sym start.first;
 }
 

@@ -100,11 +100,15 @@ sums_whole : (image : List ℕ) (n : ℕ) → n ≡ sectors_of (length image)
 unfolding sum_bytes
 sums_whole image n e = ap (λ k. flat_map (λ s. to_le_bytes w32 (crc (sector image s))) (range_with_len 0 k)) e
 
+-- its checksums are those of the image
+pub summed : (file : Option (List ℕ)) (n : ℕ) (plan : Plan) (seen : Seen) → IsSeen file n plan seen → seen.sums.items ≡ sum_bytes (unwrap_or file [])
+summed file n plan seen is = is.surveyed.sums ∙ sums_whole (unwrap_or file []) plan.extent.sectors is.extended.sectors
+
 -- one that isn't marked is accepted
 pub accepted : (file : Option (List ℕ)) (n : ℕ) (plan : Plan) (seen : Seen) (found : Found) → IsSeen file n plan seen → seen.marked ≡ None
-    → found.plan ≡ plan → found.sums.items ≡ seen.sums.items → found.fingerprint ≡ seen.fingerprint
+    → found.plan ≡ plan → found.fingerprint ≡ seen.fingerprint
     → ((m : List ℕ) → Holds seen.hasher m → found.image_sum ≡ md5 m) → IsAccepted file found
-accepted file n plan seen found is none same sums fingerprint digest =
+accepted file n plan seen found is none same fingerprint digest =
     let image : List ℕ = unwrap_or file [] in
     let all = extent_len image plan.extent is.extended in
     let some : 1 ≤ plan.extent.sectors = plan.extent.some_sectors in
@@ -116,7 +120,6 @@ accepted file n plan seen found is none same sums fingerprint digest =
       accepted = is.refusal ∙ ap (option_map Marker) none;
       found_is = record {
         extended = subst (λ (p : Plan). IsExtentOf image p.extent) (sym same) is.extended;
-        sums = sums ∙ is.surveyed.sums ∙ sums_whole image plan.extent.sectors is.extended.sectors;
         image_sum = digest _ is.surveyed.held ∙ ap md5 (ap (λ k. take k image) whole ∙ take_all (length image) image (omega arith));
         fingerprint = fingerprint ∙ is.surveyed.fingerprint marked;
       };

@@ -48,10 +48,11 @@ no_lists state image plan next window start none =
     })
 
 -- the work may begin
-pub at_start : (image ecc : List ℕ) (b c : DeskState) (found : Found) (course : Course) → image ≢ ecc → (IsTrue b.tells → IsFoundOf (bytes_of b.files image) found)
-    → OnlyChanges ecc b c false → (IsTrue b.tells → Becomes ecc (zeros 4096 ++ found.sums.items) b.files c.files) → IsStart found.sums.items course
+pub at_start : (image ecc : List ℕ) (b c : DeskState) (found : Found) (sums : List ℕ) (course : Course) → image ≢ ecc → (IsTrue b.tells → IsFoundOf (bytes_of b.files image) found)
+    → (IsTrue b.tells → sums ≡ sum_bytes (bytes_of b.files image))
+    → OnlyChanges ecc b c false → (IsTrue b.tells → Becomes ecc (zeros 4096 ++ sums) b.files c.files) → IsStart sums course
     → AtWork (moment c image ecc found.plan (faults_of c) course)
-at_start image ecc b c found course apart found_is changes begun start = record {
+at_start image ecc b c found sums course apart found_is summed changes begun start = record {
   quiet = record { reads = refl; writes = refl };
   apart = apart;
   ahead = no_lists c image found.plan course.next course.window.items start.next start.none;
@@ -59,13 +60,13 @@ at_start image ecc b c found course apart found_is changes begun start = record 
       let t0 = subst IsTrue changes.tells t in
       let file = bytes_of b.files image in
       let of = found_is t0 in
-      let sums : found.sums.items ≡ body_to file found.plan.shape.parity course.first =
-      of.sums ∙ body_none file found.plan.shape.parity ∙ ap (body_to file found.plan.shape.parity) (sym start.first) in
+      let whole : sums ≡ body_to file found.plan.shape.parity course.first =
+      summed t0 ∙ body_none file found.plan.shape.parity ∙ ap (body_to file found.plan.shape.parity) (sym start.first) in
       subst (HasBody (moment c image ecc found.plan (faults_of c) course)) (sym (same_image image ecc b.files c.files apart (changes.elsewhere t0)))
       (record {
         extended = of.extended;
-        there = (begun t0).there ∙ ap (λ xs. Some (zeros 4096 ++ xs)) sums;
-        held = subst (Holds course.hasher) sums start.held;
+        there = (begun t0).there ∙ ap (λ xs. Some (zeros 4096 ++ xs)) whole;
+        held = subst (Holds course.hasher) whole start.held;
       });
 }
 

@@ -1,5 +1,5 @@
 -- What looking at an image finds.
-use Rattle.std.specs.Prelude.{ℕ, ◌≡◌, ◌<◌, List, [], IsTrue, Option, Some, None, Result, Ok, Err}
+use Rattle.std.specs.Prelude.{ℕ, ◌≡◌, ◌<◌, List, [], IsTrue, IfOk, Option, Some, None, Result, Ok, Err}
 use Rattle.std.specs.Option.{unwrap_or}
 use Rattle.md5.specs.Md5.{md5}
 use Rattle.rs01_layers.specs.Extents.{IsExtentOf}
@@ -40,7 +40,6 @@ walk_refusal walk.OutOfMemory = OutOfMemory
 -- what was found is that of an image
 pub record IsFoundOf (image : List ℕ) (found : Found) : Type 0 where
   pub extended : IsExtentOf image found.plan.extent
-  pub sums : found.sums.items ≡ sum_bytes image
   pub image_sum : found.image_sum ≡ md5 image
   pub fingerprint : found.fingerprint ≡ md5 (sector image (mark_sector_of image))
 
@@ -64,3 +63,7 @@ Looks file (Err OutOfMemory) = Unit {0}
 -- what looking at the image under a name answers, where the desk tells it
 abbrev pub LooksAt : DeskState → List ℕ → Result Found CreateRefusal → Type 0
 LooksAt state name result = IsTrue state.tells → Looks (state.files name) result
+
+-- the checksums that were found are those of the image's sectors, where the desk tells it
+abbrev pub HasSums : DeskState → List ℕ → Result Found CreateRefusal → Type 0
+HasSums state name result = IsTrue state.tells → IfOk result (λ found. found.sums.items ≡ sum_bytes (unwrap_or (state.files name) []))

@@ -1,4 +1,6 @@
 //! Making the error correction file of an image.
+//!
+//! The types that its calls name are handed on, so that a caller names this crate alone.
 #![tactic(auto)]
 
 mod adding;
@@ -19,6 +21,8 @@ mod window;
 
 pub use creating::{create, create_one};
 pub use refusal::CreateRefusal;
+pub use rs01_outside::{Desk, Gate};
+pub use rs01_report::CreateReport;
 
 #[cfg(test)]
 mod tests;

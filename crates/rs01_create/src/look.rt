@@ -2,7 +2,7 @@
 ghost use Rattle.std.specs.Prelude.{◌≡◌, ◌≢◌, ◌<◌, ◌≤◌, Err, IfOk};
 ghost use Rattle.rs01_outside.specs.DeskState.{OnlyReads};
 ghost use Rattle.rs01_create.specs.Answer.{is_read_fault};
-ghost use Rattle.rs01_create.specs.Looking.{IsMeasured, LooksAt};
+ghost use Rattle.rs01_create.specs.Looking.{HasSums, IsMeasured, LooksAt};
 
 use crate::found::Found;
 use crate::plan::Plan;
@@ -43,6 +43,7 @@ pub fn look<D: Desk>(
     requires most { parity ≤ 100 }
     ensures reads { OnlyReads (D.state desk.old) (D.state desk.new) (is_read_fault result) }
     ensures answer { LooksAt (D.state desk.old) name.now result }
+    ensures sums { HasSums (D.state desk.old) name.now result }
     ensures parity { IfOk result (λ found. found.plan.shape.parity ≡ parity) }
     ensures many { (n : _) → result ≡ Err (CreateRefusal.TooManySectors n) → 16777215 < n }
     ensures never { result ≢ Err CreateRefusal.WriteFault }

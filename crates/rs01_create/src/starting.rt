@@ -1,5 +1,5 @@
 //! What is done before the layers are worked: looking at the image, and beginning its file.
-ghost use Rattle.std.specs.Prelude.{◌≢◌, ◌≤◌, Err, IfErr, IfOk};
+ghost use Rattle.std.specs.Prelude.{◌≡◌, ◌≢◌, ◌≤◌, Err, IfErr, IfOk};
 ghost use Rattle.rs01_create.specs.Creating.{IsCreate, IsStarted};
 
 use crate::beginning::begin;
@@ -17,6 +17,27 @@ pub struct Start {
     pub found: Found,
     pub task: EncodeTask,
     pub course: Course,
+}
+
+// Lets the checksums go, which stand in the file now: of a large image they are many.
+fn let_go(alloc: Global, found: Found) -> Found
+    ensures plan { result.plan ≡ found.plan }
+    ensures image_sum { result.image_sum ≡ found.image_sum }
+    ensures fingerprint { result.fingerprint ≡ found.fingerprint }
+{
+    let Found {
+        plan,
+        sums,
+        image_sum,
+        fingerprint,
+    } = found;
+    drop(sums);
+    Found {
+        plan,
+        sums: Vec::new(alloc),
+        image_sum,
+        fingerprint,
+    }
 }
 
 // Looks at an image, and begins its file.
@@ -41,7 +62,7 @@ pub fn look_and_begin<D: Desk>(
             };
             match begin(alloc, desk, ecc, &found.sums) {
                 Ok(course) => Ok(Start {
-                    found,
+                    found: let_go(alloc, found),
                     task,
                     course,
                 }),

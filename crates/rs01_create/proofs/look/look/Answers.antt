@@ -3,7 +3,7 @@ use Rattle.std.specs.Prelude.{IsTrue, Some}
 use Rattle.std.specs.Option.{option_map}
 use Rattle.std.proofs.lemmas.Result.{err_from_is_err_and}
 use Rattle.rs01_create.specs.declared.refusal.CreateRefusal.TheVariants.{Marker}
-use Rattle.rs01_create.proofs.Looks.{accepted, looks_measured, seen_under}
+use Rattle.rs01_create.proofs.Looks.{accepted, looks_measured, seen_under, summed}
 use Rattle.rs01_create.proofs.look.look.Goals as goal
 
 pub returns-in_err-plan-clause-answer : goal.returns-in_err-plan-clause-answer
@@ -24,4 +24,11 @@ returns-in-None-clause-answer g c = λ t.
     accepted _ c.in-Ok-Some.size c.in_ok-plan.plan c.in_ok-seen.seen _
     (seen_under (g.D.Desk.state c.args.desk.now).files _ c.args.name.now c.in-Ok-Some.size c.args.parity c.in_ok-plan.plan c.in_ok-seen.seen
     (sym c.in-Ok-Some.field-0-is ∙ size.size t) (size.reads.unchanged t) c.in_ok-plan.ensures (c.in_ok-seen.ensures.seen (subst IsTrue (sym size.reads.tells) t)))
-    c.in-None.is refl refl refl c.finalize-image_sum.ensures
+    c.in-None.is refl refl c.finalize-image_sum.ensures
+
+pub returns-in-None-clause-sums : goal.returns-in-None-clause-sums
+returns-in-None-clause-sums g c = λ t.
+    let size = c.in-Ok-Some.ensures in
+    summed _ c.in-Ok-Some.size c.in_ok-plan.plan c.in_ok-seen.seen
+    (seen_under (g.D.Desk.state c.args.desk.now).files _ c.args.name.now c.in-Ok-Some.size c.args.parity c.in_ok-plan.plan c.in_ok-seen.seen
+    (sym c.in-Ok-Some.field-0-is ∙ size.size t) (size.reads.unchanged t) c.in_ok-plan.ensures (c.in_ok-seen.ensures.seen (subst IsTrue (sym size.reads.tells) t)))
