@@ -23,8 +23,8 @@ pub use table::{
     plain_text, plain_words_of, preset_bytes, preset_of, preset_text, presets, rule_of, text_of,
     value_name, verb_of, verbs,
 };
-pub use value::number_up_to;
-pub use walk::word_at;
+pub use value::{is_digit, number_up_to};
+pub use walk::{word_at, word_if_any};
 
 #[cfg(test)]
 mod tests;

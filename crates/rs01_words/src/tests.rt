@@ -1,5 +1,7 @@
 //! The grammar against worked command lines.
-use crate::{Command, WordFault, drive_names, name_of, read_words, verb_of, verbs};
+use crate::{
+    Command, WordFault, drive_names, is_digit, name_of, read_words, verb_of, verbs, word_if_any,
+};
 use std::alloc::{AllocError, Global};
 use std::test::Fail;
 
@@ -187,5 +189,34 @@ fn names(rt: HostRuntime) {
     assert_eq!(rt; verbs().len(), 6);
     for verb in verbs() {
         assert_eq!(rt; verb_of(name_of(*verb)), Some(*verb));
+    }
+}
+
+#[test]
+fn places_of_words(rt: HostRuntime) -> Result<(), Fail> {
+    let words = words_of(rt.alloc(), "verify disc.iso disc.ecc")?;
+    for (place, wanted) in [
+        (0, Some("verify")),
+        (2, Some("disc.ecc")),
+        (3, None),
+        (usize::MAX, None),
+    ] {
+        assert_eq!(rt; word_if_any(&words, place), wanted);
+    }
+    assert_eq!(rt; word_if_any(&[], 0), None);
+    Ok(())
+}
+
+#[test]
+fn digits(rt: HostRuntime) {
+    for (byte, wanted) in [
+        (b'0', true),
+        (b'5', true),
+        (b'9', true),
+        (b'/', false),
+        (b':', false),
+        (0, false),
+    ] {
+        assert_eq!(rt; is_digit(byte), wanted);
     }
 }

@@ -1,16 +1,25 @@
 //! The number that one word stands for.
 ghost use Rattle.std.specs.Prelude.{◌≡◌, ◌+◌, ◌-◌, ◌*◌, IsTrue, option_map};
 ghost use Rattle.std.specs.List.{list_all};
-ghost use Rattle.rs01_words.specs.Value.{IsOf, given_number, is_decimal, is_digit, is_sound, number_of, number_or, number_within, option_kind, up_to, value_of};
+ghost use Rattle.rs01_words.specs.Value.{IsOf, given_number, is_decimal, is_digit, is_sound};
+ghost use Rattle.rs01_words.specs.Value.{number_of, number_or, number_within, option_kind, up_to};
+ghost use Rattle.rs01_words.specs.Value.{value_of};
 
 use crate::fault::WordFault;
 use crate::table::{Kind, OptionWord, preset_of, rule_of};
+
+/// Whether a byte is a decimal digit.
+pub fn is_digit(byte: u8) -> bool
+    ensures { result ≡ is_digit byte }
+{
+    byte >= b'0' && byte <= b'9'
+}
 
 // Whether all bytes are decimal digits.
 fn all_digits(bytes: &[u8]) -> bool
     ensures { result ≡ list_all is_digit bytes.now }
 {
-    bytes.iter().all(|b| *b >= b'0' && *b <= b'9')
+    bytes.iter().all(|byte| is_digit(*byte))
 }
 
 // Whether the word is one or more decimal digits.

@@ -2,9 +2,10 @@
 //!
 //! No memory is taken: what is asked of a place again is found by another walk. The walk ends at the
 //! first fault, and words without one are a few dozen at most, so this costs little.
-ghost use Rattle.std.specs.Prelude.{◌≡◌, ◌+◌, ◌<◌, ◌≤◌, length, false, IfSome};
+ghost use Rattle.std.specs.Prelude.{◌≡◌, ◌+◌, ◌<◌, ◌≤◌, length, false, IfSome, Some, option_map};
 ghost use Rattle.std.specs.List.{slice_get};
-ghost use Rattle.rs01_words.specs.Line.{IsKnown, given_places, is_given, is_option, is_plain, is_value, kind_at, plain_places, texts, value_kind, word_at};
+ghost use Rattle.rs01_words.specs.Line.{IsKnown, given_places, is_given, is_option, is_plain};
+ghost use Rattle.rs01_words.specs.Line.{is_value, kind_at, plain_places, texts, value_kind, word_at};
 
 use crate::look_up::{option_of, plain_kind};
 use crate::table::{Kind, Verb, rule_of};
@@ -24,6 +25,18 @@ pub fn word_at(words: &[String], place: usize) -> &str
     ensures { result.now ≡ word_at (texts words.now) place }
 {
     words[place].as_str()
+}
+
+/// The word at a place, where there is one.
+pub fn word_if_any(words: &[String], place: usize) -> Option<&str>
+    ensures word { option_map (λ x. x.now) result ≡ slice_get (texts words.now) place }
+    ensures there { place < length words.now
+        → option_map (λ x. x.now) result ≡ Some (word_at (texts words.now) place) }
+{
+    match words.get(place) {
+        None => None,
+        Some(word) => Some(word.as_str()),
+    }
 }
 
 /// Whether a word begins with two dashes.
