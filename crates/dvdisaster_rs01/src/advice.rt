@@ -1,19 +1,16 @@
 //! What a person is told beside the report, on the standard error. What can't be put there is left out.
-use crate::causes::{tell_drives, tell_files};
+use crate::causes::tell_causes;
 use crate::standard_error::ErrSink;
 use rs01_help::{
     HINTS, Ran, Topic, put_fault_lines, put_help, put_hints, put_page, put_picture, put_version,
     topic_of,
 };
+use rs01_host::Causes;
 use rs01_outside::Sink;
 use std::alloc::Global;
 use std::io::Stderr;
 
 const WORDS: u8 = 2;
-
-const ACCESS: u8 = 4;
-
-const DRIVES: u8 = 5;
 
 // What the words ask to be told.
 fn tell_topic(alloc: Global, topic: Topic, out: &mut ErrSink) {
@@ -31,14 +28,15 @@ pub(crate) fn tell_wordless(is_foreign: bool, stream: Stderr) {
     }
 }
 
-/// Draws what is lost by a report, where there is one, and tells what the words ask to be told; else what is wrong with
-/// them, why a name can't be opened, and at a terminal what to do next.
+/// Draws what is lost by a report, where there is one, and tells what the words ask to be told; else
+/// what is wrong with them, why calls on names failed, and at a terminal what to do next.
 pub(crate) fn advise(
     rt: &HostRuntime,
     words: &[String],
     status: u8,
     report: Option<String>,
     heads: &[u8],
+    causes: &Causes,
 ) {
     let alloc = rt.alloc();
     let mut out = ErrSink::new(rt.stderr());
@@ -52,12 +50,7 @@ pub(crate) fn advise(
     if status == WORDS {
         let _ = put_fault_lines(alloc, words, &mut out);
     }
-    if status == ACCESS {
-        tell_files(rt, words, &mut out);
-    }
-    if status == DRIVES {
-        tell_drives(rt, words, &mut out);
-    }
+    tell_causes(alloc, causes, &mut out);
     if out.is_seen() {
         let command = match words.first() {
             Some(word) => word.as_str(),

@@ -10,12 +10,13 @@ mod standard_error;
 mod watching;
 
 use advice::{advise, tell_wordless};
+use progress::Watcher;
 use rs01_help::Noted;
-use rs01_host::{FileDesk, FileDrive, StdSink};
-use rs01_outside::{Drive, OpenGate};
+use rs01_host::{Causes, FileDesk, FileDrive, StdSink};
+use rs01_outside::Drive;
 use rs01_rack::Rack;
 use rs01_top::run;
-use rs01_watch::{WatchedDesk, WatchedDrive, WatchedSink};
+use rs01_watch::{CountingGate, WatchedDesk, WatchedDrive, WatchedSink};
 use rs01_words::drive_names;
 use std::alloc::{AllocError, Global};
 use std::env;
@@ -23,6 +24,7 @@ use std::fs::{self, File};
 use std::io::{self, ErrorKind};
 use std::process::ExitCode;
 use std::rt::Env;
+use std::sync::Arc;
 use watching::watcher;
 
 const NO_MEMORY: u8 = 7;
@@ -82,17 +84,47 @@ fn hold_streams(rt: &HostRuntime) -> [io::Result<File>; 3] {
     ]
 }
 
-// Copies for the files and for the output.
-fn copies(rt: &HostRuntime) -> Option<(HostRuntime, HostRuntime)> {
-    let files = rt.clone().ok()?;
-    let output = rt.clone().ok()?;
-    Some((files, output))
+// What a run begins with: the files and the causes of their failures, a copy for the output, the names of the drives, and
+// a gate for the workers.
+#[derive(Drop)]
+struct Beginning {
+    desk: FileDesk<HostRuntime>,
+    causes: Causes,
+    output: HostRuntime,
+    names: Vec<String>,
+    gate: Arc<CountingGate>,
+}
+
+fn begin(rt: &HostRuntime, words: &[String]) -> Option<Beginning> {
+    let causes = Causes::new(rt.alloc());
+    let mut desk = FileDesk::new(rt.clone().ok()?);
+    desk.tell(causes.share());
+    desk.reserve(words).ok()?;
+    Some(Beginning {
+        desk,
+        causes,
+        output: rt.clone().ok()?,
+        names: drive_names(rt.alloc(), words).ok()?,
+        gate: Arc::new(rt.alloc(), CountingGate::new()).ok()?,
+    })
 }
 
 // Tells why there are no words, and ends with the status.
 fn end_wordless(rt: &HostRuntime, status: u8) -> ExitCode {
     tell_wordless(status == NO_WORDS, rt.stderr());
     ExitCode::from(status)
+}
+
+// A drive that tells what it is asked for, and why it fails.
+fn drive_of(
+    rt: &HostRuntime,
+    name: String,
+    watcher: &Watcher,
+    causes: &Causes,
+) -> Option<Box<WatchedDrive<FileDrive<HostRuntime>, Watcher>>> {
+    let mut drive = FileDrive::new(rt.clone().ok()?, name);
+    drive.tell(causes.share());
+    Box::new(rt.alloc(), WatchedDrive::new(drive, watcher.share())).ok()
 }
 
 fn main(rt: HostRuntime) -> ExitCode {
@@ -102,24 +134,25 @@ fn main(rt: HostRuntime) -> ExitCode {
         Err(status) => return end_wordless(&rt, status),
     };
     keep_freed_memory(rt.alloc());
-    let Some((files, output)) = copies(&rt) else {
+    let Some(
+        Beginning {
+            desk,
+            causes,
+            output,
+            names,
+            gate,
+        },
+    ) = begin(&rt, &words)
+    else {
         return ExitCode::from(NO_MEMORY);
     };
-    let mut desk = FileDesk::new(files);
-    let (Ok(()), Ok(names)) = (desk.reserve(&words), drive_names(rt.alloc(), &words)) else {
-        return ExitCode::from(NO_MEMORY);
-    };
-    let watcher = watcher(&rt, &words);
+    let watcher = watcher(&rt, &words, &gate);
     let mut drives: Vec<Box<dyn Drive>> = Vec::new(rt.alloc());
     for name in names {
         if drives.len() == MOST_DRIVES {
             break;
         }
-        let Ok(files) = rt.clone() else {
-            return ExitCode::from(NO_MEMORY);
-        };
-        let drive = WatchedDrive::new(FileDrive::new(files, name), watcher.share());
-        let Ok(drive) = Box::new(rt.alloc(), drive) else {
+        let Some(drive) = drive_of(&rt, name, &watcher, &causes) else {
             return ExitCode::from(NO_MEMORY);
         };
         if drives.push(drive).is_err() {
@@ -129,10 +162,10 @@ fn main(rt: HostRuntime) -> ExitCode {
     let Ok(mut rack) = Rack::new(rt.alloc(), drives) else {
         return ExitCode::from(NO_MEMORY);
     };
-    let (alloc, gate) = (rt.alloc(), OpenGate);
+    let alloc = rt.alloc();
     let mut desk = WatchedDesk::new(desk, watcher.share());
     let mut out = Noted::new(WatchedSink::new(StdSink::new(output), watcher.share()));
-    let status = run(&rt, alloc, &words, &mut desk, &mut rack, &mut out, &gate);
-    advise(&rt, &words, status, watcher.report(), out.heads());
+    let status = run(&rt, alloc, &words, &mut desk, &mut rack, &mut out, &*gate);
+    advise(&rt, &words, status, watcher.report(), out.heads(), &causes);
     ExitCode::from(status)
 }

@@ -1,12 +1,12 @@
 //! How far the work has come: one line at a terminal, rewritten about twice a second.
-use crate::causes::places;
 use rs01_help::{Asks, bytes_line, sectors_line};
-use rs01_watch::Observer;
-use rs01_words::{Command, read_words, word_at};
+use rs01_watch::{CountingGate, Observer};
+use rs01_words::{Command, read_words, word_if_any};
 use std::alloc::{AllocError, Global};
 use std::cell::Cell;
 use std::io::{Stderr, Write};
 use std::rc::Rc;
+use std::sync::Arc;
 use std::time::Instant;
 
 // How many calls are made between two looks at the clock. One that failed took long, and is followed by a look.
@@ -61,6 +61,7 @@ pub(crate) struct Progress {
     place: Cell<u64>,
     given: Cell<u32>,
     failed: Cell<u32>,
+    gate: Arc<CountingGate>,
     told_at: Cell<u64>,
     is_shown: Cell<bool>,
     report: Cell<Option<String>>,
@@ -83,6 +84,7 @@ impl Progress {
             let asks = Asks {
                 given: self.given.get(),
                 failed: self.failed.get(),
+                settled: self.gate.entered(),
             };
             return sectors_line(alloc, self.place.get(), self.sectors.get(), asks, millis).ok();
         }
@@ -145,16 +147,34 @@ fn readings(command: &Command) -> (u64, u64) {
     }
 }
 
-// The word at a place, and nothing where there is none.
-fn name_at(alloc: Global, words: &[String], place: Option<usize>) -> Result<String, AllocError> {
-    match place {
-        Some(place) if place < words.len() => String::from_str(alloc, word_at(words, place)),
-        _ => Ok(String::new(alloc)),
+// The places of the names of an image and of its file.
+fn places(command: &Command) -> (Option<usize>, Option<usize>) {
+    match command {
+        Command::Create { image, ecc, .. } => (Some(*image), Some(*ecc)),
+        Command::Fix { image, ecc, .. } => (Some(*image), Some(*ecc)),
+        Command::Verify { image, ecc } => (Some(*image), Some(*ecc)),
+        Command::Scan { ecc, .. } => (None, *ecc),
+        Command::Read { image, ecc, .. } => (Some(*image), *ecc),
+        Command::Demo { .. } => (None, None),
     }
 }
 
+// The word at a place, and nothing where there is none.
+fn name_at(alloc: Global, words: &[String], place: Option<usize>) -> Result<String, AllocError> {
+    let word = match place {
+        Some(place) => word_if_any(words, place),
+        None => None,
+    };
+    String::from_str(alloc, word.unwrap_or(""))
+}
+
 // What a command is told of.
-fn begin(rt: HostRuntime, stream: Stderr, words: &[String]) -> Option<Progress> {
+fn begin(
+    rt: HostRuntime,
+    stream: Stderr,
+    words: &[String],
+    gate: Arc<CountingGate>,
+) -> Option<Progress> {
     let started = Instant::now(&rt).ok()?;
     let command = read_words(words).ok()?;
     let (image_reads, ecc_reads) = readings(&command);
@@ -173,6 +193,7 @@ fn begin(rt: HostRuntime, stream: Stderr, words: &[String]) -> Option<Progress> 
         place: Cell::new(0),
         given: Cell::new(0),
         failed: Cell::new(0),
+        gate,
         told_at: Cell::new(0),
         is_shown: Cell::new(false),
         report: Cell::new(None),
@@ -191,10 +212,16 @@ impl Watcher {
         Watcher { progress: None }
     }
 
-    /// One that tells on this stream how far the work of these words has come.
-    pub(crate) fn new(rt: HostRuntime, stream: Stderr, words: &[String]) -> Watcher {
+    /// One that tells on this stream how far the work of these words has come. While drives are read,
+    /// the workers that pass the gate are those that correct settled layers.
+    pub(crate) fn new(
+        rt: HostRuntime,
+        stream: Stderr,
+        words: &[String],
+        gate: Arc<CountingGate>,
+    ) -> Watcher {
         let alloc = rt.alloc();
-        let Some(progress) = begin(rt, stream, words) else {
+        let Some(progress) = begin(rt, stream, words, gate) else {
             return Watcher::idle();
         };
         match Rc::new(alloc, progress) {

@@ -4,9 +4,8 @@ ghost use Rattle.rs01_report.specs.Lines.{Adds};
 ghost use Rattle.rs01_words.specs.Line.{texts};
 ghost use Rattle.rs01_help.specs.Faulty.{fault_lines, first_verb, more_part, name_part, usage_of, word_line};
 
-use crate::topic::text_at;
 use crate::usage::push_usage;
-use rs01_words::{Verb, name_of, read_words, verb_of, verbs};
+use rs01_words::{Verb, name_of, read_words, verb_of, verbs, word_if_any};
 use std::alloc::AllocError;
 use std::fmt::Write;
 
@@ -71,7 +70,7 @@ fn push_usage_of(text: &mut String, verb: Option<Verb>) -> Result<(), AllocError
 fn first_verb(words: &[String]) -> Option<Verb>
     ensures { result ≡ first_verb (texts words.now) }
 {
-    match text_at(words, 0) {
+    match word_if_any(words, 0) {
         None => None,
         Some(word) => verb_of(word),
     }
@@ -85,7 +84,7 @@ pub(crate) fn push_fault_lines(text: &mut String, words: &[String]) -> Result<()
     match read_words(words) {
         Ok(_) => {}
         Err(refused) => {
-            push_word(text, refused.place, text_at(words, refused.place))?;
+            push_word(text, refused.place, word_if_any(words, refused.place))?;
             push_usage_of(text, first_verb(words))?;
         }
     }

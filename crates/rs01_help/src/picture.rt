@@ -1,12 +1,17 @@
-//! A picture of what is lost: a line of cells, each of which stands for neighbouring sectors of the image.
+//! A picture of the image: a line of cells, each of which stands for neighbouring sectors.
 //!
 //! It is drawn from the lines of a report. No clause says what it shows; tests do.
+ghost use Rattle.std.specs.Prelude.{◌<◌};
+
 use rs01_outside::Sink;
 use rs01_report::PutRefusal;
 use std::alloc::{AllocError, Global};
 
 // How many cells there are.
 const CELLS: usize = 60;
+
+// What the signs mean.
+const LEGEND: &str = "  . good   # missing or unreadable   x altered   + restored   ? not asked\n";
 
 // The number that a text begins with.
 fn number_in(text: &str) -> Option<u64> {
@@ -26,20 +31,19 @@ fn sectors_in(report: &str) -> Option<u64> {
     None
 }
 
-// Counts a run of sectors in each cell that it touches.
-fn mark(cells: &mut [u64], width: u64, first: u64, last: u64) {
+// Marks each cell that a run of sectors touches.
+fn mark(cells: &mut [bool; CELLS], width: u64, first: u64, last: u64) {
     for k in 0..cells.len() {
         let from = width.saturating_mul(k as u64);
-        let low = first.max(from);
-        let high = last.min(from.saturating_add(width.saturating_sub(1)));
-        if low <= high {
-            cells[k] = cells[k].saturating_add(high - low).saturating_add(1);
+        let end = from.saturating_add(width);
+        if first < end && from <= last {
+            cells[k] = true;
         }
     }
 }
 
-// Counts the sectors of a list.
-fn mark_list(cells: &mut [u64], width: u64, list: &str) {
+// Marks the cells of a list.
+fn mark_list(cells: &mut [bool; CELLS], width: u64, list: &str) {
     for run in list.split(',') {
         let (first, last) = match run.split_once('-') {
             Some((first, last)) => (first.parse::<u64>(), last.parse::<u64>()),
@@ -51,64 +55,99 @@ fn mark_list(cells: &mut [u64], width: u64, list: &str) {
     }
 }
 
-// Counts the sectors of the lines that begin with a label.
-fn mark_lines(cells: &mut [u64], width: u64, report: &str, label: &str) {
+// The cells of the lists whose lines begin with one of two labels.
+fn cells_of(report: &str, width: u64, label: &str, other: &str) -> [bool; CELLS] {
+    let mut cells = [false; CELLS];
     for line in report.lines() {
-        if let Some(rest) = line.strip_prefix(label) {
-            if let Some((_, list)) = rest.split_once(": ") {
-                mark_list(cells, width, list);
+        if line.starts_with(label) || line.starts_with(other) {
+            if let Some((_, list)) = line.split_once(": ") {
+                mark_list(&mut cells, width, list);
             }
         }
     }
+    cells
 }
 
-// Counts what a report says is lost.
-fn mark_report(cells: &mut [u64], width: u64, report: &str) {
-    if report.starts_with("checked ") {
-        mark_lines(cells, width, report, "missing ");
-        mark_lines(cells, width, report, "altered ");
-    } else if report.starts_with("scanned ") {
-        mark_lines(cells, width, report, "unreadable ");
-        mark_lines(cells, width, report, "altered ");
-    } else if report.starts_with("read ") {
-        mark_lines(cells, width, report, "lost ");
+// What a report says of the sectors of each cell.
+#[derive(Drop)]
+struct Cells {
+    missing: [bool; CELLS],
+    altered: [bool; CELLS],
+    restored: [bool; CELLS],
+    lost: [bool; CELLS],
+}
+
+impl Cells {
+    // `read` says which sectors are lost at its end. `verify` and `scan` restore none, so there each
+    // that is missing or altered is.
+    fn of(report: &str, width: u64) -> Cells {
+        let missing = cells_of(report, width, "missing ", "unreadable ");
+        let altered = cells_of(report, width, "altered ", "altered ");
+        let restored = cells_of(report, width, "restored ", "restored ");
+        let mut lost = cells_of(report, width, "lost ", "lost ");
+        if !report.starts_with("read ") {
+            for k in 0..CELLS {
+                lost[k] = missing[k] || altered[k];
+            }
+        }
+        Cells {
+            missing,
+            altered,
+            restored,
+            lost,
+        }
+    }
+
+    // The sign of a cell.
+    fn sign(&self, k: usize) -> &'static str
+        requires { k < 60 }
+    {
+        if !self.lost[k] {
+            return if self.restored[k] { "+" } else { "." };
+        }
+        if self.missing[k] {
+            return "#";
+        }
+        if self.altered[k] { "x" } else { "?" }
+    }
+
+    fn is_whole(&self) -> bool {
+        !self.lost.iter().any(|lost| *lost) && !self.restored.iter().any(|restored| *restored)
     }
 }
 
-// The sign of a cell with so many lost sectors of so many.
-fn sign(lost: u64, width: u64) -> &'static str {
-    if lost == 0 {
-        "."
-    } else if lost < width / 2 {
-        "o"
-    } else {
-        "#"
-    }
+// Whether a report has lists of sectors by the whole image.
+fn has_lists(report: &str) -> bool {
+    report.starts_with("checked ") || report.starts_with("scanned ") || report.starts_with("read ")
 }
 
-// The picture of a report, and nothing where nothing is lost or the report has no lists.
+// The picture of a report, and nothing where all is good or the report has no lists.
 fn picture_of(alloc: Global, report: &str) -> Result<String, AllocError> {
     let mut text = String::new(alloc);
     let Some(sectors) = sectors_in(report) else {
         return Ok(text);
     };
     let width = sectors.div_ceil(CELLS as u64).max(1);
-    let mut cells = [0u64; CELLS];
-    mark_report(&mut cells, width, report);
-    if cells.iter().all(|lost| *lost == 0) {
+    let cells = Cells::of(report, width);
+    if !has_lists(report) || cells.is_whole() {
         return Ok(text);
     }
     let count = sectors.div_ceil(width).min(CELLS as u64) as usize;
-    text.push_str("lost: [")?;
+    text.push_str("image: [")?;
     for k in 0..count {
-        text.push_str(sign(cells[k], width))?;
+        text.push_str(cells.sign(k))?;
     }
     text.push_str("]\n")?;
+    text.push_str(LEGEND)?;
     Ok(text)
 }
 
-/// Puts a picture of what is lost by the report of `verify`, `scan` or `read`: a sign for each part of the image, a point
-/// where nothing of it is lost, `o` where less than half of it is, and else `#`. Nothing where nothing is lost.
+/// Puts a picture of the image by the report of `verify`, `scan` or `read`: a sign for each part of
+/// it, and what the signs mean. Nothing where all is good.
+///
+/// A point stands where nothing is lost and nothing had to be restored, `+` where what was lost was
+/// restored. Else something of the part is lost, and the sign is that of the first that fits: `#`
+/// where a sector is missing or unreadable, `x` where one is altered, `?` where none was asked for.
 pub fn put_picture<S: Sink>(alloc: Global, report: &str, out: &mut S) -> Result<(), PutRefusal> {
     let text = picture_of(alloc, report)?;
     if !text.is_empty() {

@@ -1,7 +1,7 @@
 //! How far a work has come.
 ghost use Rattle.std.specs.Prelude.{◌≡◌, ◌+◌, IfOk, string_bytes};
 ghost use Rattle.rs01_report.specs.Lines.{Adds};
-ghost use Rattle.rs01_help.specs.Progress.{again, asks_part, bytes_done, bytes_line, left_part, sectors_done, sectors_line, share, size_part, speed_part};
+ghost use Rattle.rs01_help.specs.Progress.{again, asks_part, bytes_done, bytes_line, left_part, sectors_done, sectors_line, settled_part, share, size_part, speed_part};
 
 use std::alloc::{AllocError, Global};
 use std::fmt::Write;
@@ -13,6 +13,9 @@ pub struct Asks {
     pub given: u32,
     /// How often one didn't.
     pub failed: u32,
+    /// How many layers have as few sectors left as correction restores, so that none of these is
+    /// asked for any more.
+    pub settled: u64,
 }
 
 impl Asks {
@@ -101,6 +104,17 @@ fn push_asks(text: &mut String, asks: Asks) -> Result<(), AllocError>
     Ok(())
 }
 
+#[tactic(auto, unfolding(crate::specs::Progress::settled_part))]
+fn push_settled(text: &mut String, settled: u64) -> Result<(), AllocError>
+    ensures { Adds text.old text.new (settled_part settled) result }
+{
+    if settled == 0 {
+        return Ok(());
+    }
+    write!(text, ", layers settled {settled}")?;
+    Ok(())
+}
+
 #[tactic(auto, unfolding(crate::specs::Progress::sectors_done))]
 fn push_sectors(
     text: &mut String,
@@ -109,13 +123,14 @@ fn push_sectors(
     asks: Asks,
     millis: u64,
 ) -> Result<(), AllocError>
-    ensures { let told = sectors_done done total asks.given asks.failed millis in
+    ensures { let told = sectors_done done total asks.given asks.failed asks.settled millis in
         Adds text.old text.new told result }
 {
     let rate = share(asks.asked(), 1000, millis);
     push_again(text)?;
     write!(text, "sector {done} of {total}")?;
     push_asks(text, asks)?;
+    push_settled(text, asks.settled)?;
     write!(text, ", {rate} a second")?;
     push_left(text, done, total, millis)?;
     Ok(())
@@ -130,7 +145,8 @@ pub fn sectors_line(
     millis: u64,
 ) -> Result<String, AllocError>
     ensures { IfOk result (λ text.
-        string_bytes text ≡ sectors_line done total asks.given asks.failed millis) }
+        string_bytes text
+        ≡ sectors_line done total asks.given asks.failed asks.settled millis) }
 {
     let mut text = String::new(alloc);
     push_sectors(&mut text, done.min(total), total, asks, millis)?;

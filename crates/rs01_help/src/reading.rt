@@ -4,7 +4,7 @@ ghost use Rattle.std.specs.List.{prefix_len};
 ghost use Rattle.rs01_words.specs.Value.{is_digit};
 ghost use Rattle.rs01_help.specs.Reading.{after, fullest_in, holds, number_after, number_at};
 
-use rs01_words::number_up_to;
+use rs01_words::{is_digit, number_up_to};
 
 /// What stands behind a text where it stands first.
 pub(crate) fn after<'a>(text: &[u8], bytes: &'a [u8]) -> Option<&'a [u8]>
@@ -23,12 +23,6 @@ pub(crate) fn holds(text: &[u8], bytes: &[u8]) -> bool
     ensures { result ≡ holds text.now bytes.now }
 {
     after(text, bytes).is_some()
-}
-
-fn is_digit(byte: u8) -> bool
-    ensures { result ≡ is_digit byte }
-{
-    byte >= b'0' && byte <= b'9'
 }
 
 // How many digits stand first.

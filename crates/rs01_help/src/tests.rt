@@ -231,12 +231,18 @@ fn counts(rt: HostRuntime) -> Result<(), Fail> {
     Ok(())
 }
 
+const LEGEND: &str = "  . good   # missing or unreadable   x altered   + restored   ? not asked\n";
+
 #[test]
 fn pictures(rt: HostRuntime) -> Result<(), Fail> {
     for (report, told) in [
         (
             "checked a\nsectors 600, layers 3, parity 32\nmissing 1: 5\naltered 25: 20-39,590-594\n",
-            "lost: [o.##.......................................................#]\n",
+            "#.xx.......................................................x",
+        ),
+        (
+            "checked a\nsectors 600, layers 3, parity 32\nmissing 1: 25\naltered 1: 20\n",
+            "..#.........................................................",
         ),
         (
             "checked a\nsectors 600, layers 3, parity 32\nmissing 0: none\naltered 0: none\n",
@@ -244,18 +250,32 @@ fn pictures(rt: HostRuntime) -> Result<(), Fail> {
         ),
         (
             "scanned 10 sectors\nunreadable 1: 3\naltered 1: 9\n",
-            "lost: [...#.....#]\n",
+            "...#.....x",
         ),
         (
             "read a\nsectors 4\nunreadable 2: 0-1\nrestored 1: 0\nlost 1: 1\n",
-            "lost: [.#..]\n",
+            "+#..",
         ),
-        ("fixed a\nlost 1: 1\n", ""),
+        (
+            "read a\nsectors 8\nunreadable 1: 3\naltered 1: 1\nnot asked 2: 4-5\nlost 4: 1,3-5\n",
+            ".x.#??..",
+        ),
+        (
+            "read a\nsectors 3\nunreadable 1: 2\nrestored 1: 2\nlost 0: none\n",
+            "..+",
+        ),
+        ("read a\nsectors 3\nunreadable 0: none\nlost 0: none\n", ""),
+        ("fixed a\nrestored 1: 0\nlost 1: 1\n", ""),
         ("rs01: no image\n", ""),
     ] {
         let mut out = MemorySink::new(rt.alloc());
         assert!(rt; put_picture(rt.alloc(), report, &mut out).is_ok());
-        assert_eq!(rt; text_in(&out), told, "{report}");
+        if told.is_empty() {
+            assert_eq!(rt; text_in(&out), "", "{report}");
+        } else {
+            let wanted = format!(in rt.alloc(); "image: [{told}]\n{LEGEND}")?;
+            assert_eq!(rt; text_in(&out), wanted.as_str(), "{report}");
+        }
     }
     Ok(())
 }
@@ -338,19 +358,27 @@ fn progress_of_files(rt: HostRuntime) -> Result<(), Fail> {
 
 #[test]
 fn progress_of_drives(rt: HostRuntime) -> Result<(), Fail> {
-    for (done, told) in [
+    for (done, settled, told) in [
         (
             250,
+            0,
             "sector 250 of 1000, asked 252, good 248, failed 4, 50 a second, 15 s left",
         ),
         (
+            250,
+            3,
+            "sector 250 of 1000, asked 252, good 248, failed 4, layers settled 3, 50 a second, 15 s left",
+        ),
+        (
             1001,
+            0,
             "sector 1000 of 1000, asked 252, good 248, failed 4, 50 a second, 0 s left",
         ),
     ] {
         let asks = Asks {
             given: 248,
             failed: 4,
+            settled,
         };
         let line = sectors_line(rt.alloc(), done, 1000, asks, 5000)?;
         assert_eq!(rt; line.strip_prefix("\r\x1b[K"), Some(told));

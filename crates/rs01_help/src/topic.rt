@@ -2,11 +2,10 @@
 ghost use Rattle.std.specs.Prelude.{◌≡◌, option_map};
 ghost use Rattle.std.specs.Option.{option_and_then};
 ghost use Rattle.rs01_words.specs.Grammar.{verb_of};
-ghost use Rattle.std.specs.List.{slice_get};
 ghost use Rattle.rs01_words.specs.Line.{texts};
 ghost use Rattle.rs01_help.specs.Topics.{asks_help, asks_version, page_asked, page_of, topic_by, topic_of};
 
-use rs01_words::{Verb, verb_of};
+use rs01_words::{Verb, verb_of, word_if_any};
 
 /// What is told in place of a command's work.
 #[derive(Clone, Copy, Debug, PartialEq, Eq)]
@@ -82,21 +81,11 @@ fn topic_by(first: Option<&str>, second: Option<&str>) -> Option<Topic>
     page_asked(verb_of(word), second)
 }
 
-/// The word at a place, where there is one.
-pub(crate) fn text_at(words: &[String], place: usize) -> Option<&str>
-    ensures { option_map (λ x. x.now) result ≡ slice_get (texts words.now) place }
-{
-    match words.get(place) {
-        None => None,
-        Some(word) => Some(word.as_str()),
-    }
-}
-
 /// What the words ask to be told in place of a command's work, as by `--help`. No words ask for all. The grammar has none
 /// of these words, so a run of them is refused.
 #[tactic(auto, unfolding(crate::specs::Topics::topic_of))]
 pub fn topic_of(words: &[String]) -> Option<Topic>
     ensures { result ≡ topic_of (texts words.now) }
 {
-    topic_by(text_at(words, 0), text_at(words, 1))
+    topic_by(word_if_any(words, 0), word_if_any(words, 1))
 }

@@ -2,6 +2,7 @@
 ghost use Rattle.std.specs.Prelude.{◌≡◌};
 ghost use Rattle.rs01_host.specs.Untold.{untold_desk};
 
+use crate::causes::Causes;
 use crate::fault_count::FaultCount;
 use crate::system::System;
 use rs01_outside::{Desk, Failed};
@@ -31,6 +32,7 @@ pub struct FileDesk<R: Files<File = File> + AllocGlobal + Drop> {
     system: System<R>,
     reads: FaultCount,
     writes: FaultCount,
+    causes: Causes,
 }
 
 impl<R: Files<File = File> + AllocGlobal + Drop> FileDesk<R> {
@@ -42,7 +44,15 @@ impl<R: Files<File = File> + AllocGlobal + Drop> FileDesk<R> {
             system: System::new(files),
             reads: FaultCount::new(),
             writes: FaultCount::new(),
+            causes: Causes::none(),
         }
+    }
+
+    /// Lets this list keep why calls fail from now on.
+    pub fn tell(&mut self, causes: Causes)
+        ensures { let state = ⟦<FileDesk<R> as Desk>⟧.state in state self.new ≡ state self.old }
+    {
+        self.causes = causes;
     }
 
     /// Makes room to keep the files of these names. Calls on other names make room for each when
@@ -58,23 +68,33 @@ impl<R: Files<File = File> + AllocGlobal + Drop> Desk for FileDesk<R> {
     ghost state = { λ desk. untold_desk desk.reads.count desk.writes.count };
 
     fn size(&mut self, name: &str) -> Result<Option<u64>, Failed> {
-        self.system.size(name, &mut self.reads)
+        let outcome = self.system.size(name, &mut self.reads);
+        self.causes.note(name, &outcome, self.reads.reason());
+        outcome
     }
 
     fn read_at(&mut self, name: &str, at: u64, into: &mut [u8]) -> Result<usize, Failed> {
-        self.system.read_at(name, at, into, &mut self.reads)
+        let outcome = self.system.read_at(name, at, into, &mut self.reads);
+        self.causes.note(name, &outcome, self.reads.reason());
+        outcome
     }
 
     fn write_at(&mut self, name: &str, at: u64, bytes: &[u8]) -> Result<(), Failed> {
-        self.system.write_at(name, at, bytes, &mut self.writes)
+        let outcome = self.system.write_at(name, at, bytes, &mut self.writes);
+        self.causes.note(name, &outcome, self.writes.reason());
+        outcome
     }
 
     fn make(&mut self, name: &str) -> Result<(), Failed> {
-        self.system.make(name, &mut self.writes)
+        let outcome = self.system.make(name, &mut self.writes);
+        self.causes.note(name, &outcome, self.writes.reason());
+        outcome
     }
 
     fn cut(&mut self, name: &str, len: u64) -> Result<(), Failed> {
-        self.system.cut(name, len, &mut self.writes)
+        let outcome = self.system.cut(name, len, &mut self.writes);
+        self.causes.note(name, &outcome, self.writes.reason());
+        outcome
     }
 
     fn read_faults(&self) -> u64 {

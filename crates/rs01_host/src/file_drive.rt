@@ -4,6 +4,7 @@ ghost use Rattle.rs01_host.specs.Counting.{Counts};
 ghost use Rattle.rs01_host.specs.Reaching.{HasSectors, Reaches, sectors_in};
 ghost use Rattle.rs01_host.specs.Untold.{untold_drive};
 
+use crate::causes::{Causes, Reason};
 use crate::fault_count::FaultCount;
 use crate::opened::Opened;
 use rs01_outside::{Drive, Failed};
@@ -32,6 +33,7 @@ pub struct FileDrive<R: Files<File = File> + Drop> {
     name: String,
     opened: Option<Opened>,
     faults: FaultCount,
+    causes: Causes,
 }
 
 impl<R: Files<File = File> + Drop> FileDrive<R> {
@@ -45,7 +47,15 @@ impl<R: Files<File = File> + Drop> FileDrive<R> {
             name,
             opened: None,
             faults: FaultCount::new(),
+            causes: Causes::none(),
         }
+    }
+
+    /// Lets this list keep why calls fail from now on.
+    pub fn tell(&mut self, causes: Causes)
+        ensures { let state = ⟦<FileDrive<R> as Drive>⟧.state in state self.new ≡ state self.old }
+    {
+        self.causes = causes;
     }
 
     // Opens the drive, where it isn't open yet and the name is there.
@@ -56,6 +66,30 @@ impl<R: Files<File = File> + Drop> FileDrive<R> {
             self.opened = Opened::to_read(&self.files, self.name.as_str(), &mut self.faults)?;
         }
         Ok(())
+    }
+
+    // The number of sectors, once the drive is open.
+    fn count_sectors(&mut self) -> Result<u32, Failed>
+        ensures number { IfOk result (λ number. HasSectors number self.new.opened) }
+        ensures counted { Counts self.old.faults self.new.faults (is_err result) }
+    {
+        self.open()?;
+        match &self.opened {
+            Some(opened) => Ok(sector_count(opened.len)),
+            None => self.faults.refuse(Reason::Absent),
+        }
+    }
+
+    // Reads a sector, once the drive is open.
+    fn read_opened(&mut self, sector: u32, into: &mut [u8; 2048]) -> Result<(), Failed>
+        ensures there { OnOk result (Reaches sector self.new.opened) }
+        ensures counted { Counts self.old.faults self.new.faults (is_err result) }
+    {
+        self.open()?;
+        match &self.opened {
+            Some(opened) => read_sector(opened, sector, into, &mut self.faults),
+            None => self.faults.refuse(Reason::Absent),
+        }
     }
 }
 
@@ -71,7 +105,7 @@ fn read_sector(
 {
     let at = sector as u64 * 2048;
     if opened.len <= at {
-        return faults.refuse();
+        return faults.refuse(Reason::PastEnd);
     }
     let count = opened.read_at(at, into, faults)?;
     into[count..].fill(0);
@@ -85,22 +119,20 @@ impl<R: Files<File = File> + Drop> Drive for FileDrive<R> {
         ensures number { IfOk result (λ number. HasSectors number self.new.opened) }
         ensures counted { Counts self.old.faults self.new.faults (is_err result) }
     {
-        self.open()?;
-        match &self.opened {
-            Some(opened) => Ok(sector_count(opened.len)),
-            None => self.faults.refuse(),
-        }
+        let outcome = self.count_sectors();
+        self.causes
+            .note(self.name.as_str(), &outcome, self.faults.reason());
+        outcome
     }
 
     fn read(&mut self, sector: u32, into: &mut [u8; 2048]) -> Result<(), Failed>
         ensures there { OnOk result (Reaches sector self.new.opened) }
         ensures counted { Counts self.old.faults self.new.faults (is_err result) }
     {
-        self.open()?;
-        match &self.opened {
-            Some(opened) => read_sector(opened, sector, into, &mut self.faults),
-            None => self.faults.refuse(),
-        }
+        let outcome = self.read_opened(sector, into);
+        self.causes
+            .note(self.name.as_str(), &outcome, self.faults.reason());
+        outcome
     }
 
     fn asked_at(&self, _i: u64) -> Option<u32> {

@@ -6,6 +6,7 @@
 //! succeed.
 #![tactic(auto)]
 
+mod causes;
 mod fault_count;
 mod file_desk;
 mod file_drive;
@@ -18,6 +19,7 @@ mod standard_sink;
 mod system;
 mod writing;
 
+pub use causes::{Cause, Causes, Reason};
 pub use file_desk::FileDesk;
 pub use file_drive::FileDrive;
 pub use standard_sink::StdSink;

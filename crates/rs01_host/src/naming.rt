@@ -3,6 +3,7 @@ ghost use Rattle.std.specs.Prelude.{◌≡◌, ◌≢◌, ◌↔◌, Err, IfErr,
 ghost use Rattle.std.specs.IoError.{error_kind};
 ghost use Rattle.rs01_host.specs.Counting.{Counts};
 
+use crate::causes::Reason;
 use crate::fault_count::FaultCount;
 use crate::reading::fill;
 use rs01_outside::Failed;
@@ -78,7 +79,7 @@ impl Found {
                 identity,
                 len: metadata.len(),
             }),
-            None => faults.refuse(),
+            None => faults.refuse(Reason::NotAFile),
         }
     }
 }

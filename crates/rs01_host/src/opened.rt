@@ -2,6 +2,7 @@
 ghost use Rattle.std.specs.Prelude.{◌≡◌, ◌+◌, ◌-◌, ◌≤◌, min, IfOk, OnOk, length, is_err};
 ghost use Rattle.rs01_host.specs.Counting.{Counts};
 
+use crate::causes::Reason;
 use crate::fault_count::FaultCount;
 use crate::naming::{Found, Identity, examine, look_up, measure, present};
 use crate::place::Place;
@@ -101,7 +102,7 @@ impl Opened {
     {
         let (file, can_read) = faults.settle(open_to_change(files, name, create))?;
         if is_locked_elsewhere(&file) {
-            return faults.refuse();
+            return faults.refuse(Reason::Locked);
         }
         Ok(Opened::new(file, can_read, true, faults)?)
     }
@@ -114,7 +115,7 @@ impl Opened {
         ensures counted { Counts faults.old faults.new (is_err result) }
     {
         if !self.identity.is_same(other.identity) || other.len < self.len {
-            return faults.refuse();
+            return faults.refuse(Reason::Changed);
         }
         *self = other;
         Ok(())
@@ -142,14 +143,14 @@ impl Opened {
         ensures counted { Counts faults.old faults.new (is_err result) }
     {
         let Some(found) = look_up(files, name, faults)? else {
-            return faults.refuse();
+            return faults.refuse(Reason::Changed);
         };
         if !self.identity.is_same(found.identity) {
-            return faults.refuse();
+            return faults.refuse(Reason::Changed);
         }
         let len = self.length_of(found, faults)?;
         if len < self.len {
-            return faults.refuse();
+            return faults.refuse(Reason::Changed);
         }
         self.len = len;
         Ok(())
@@ -170,7 +171,7 @@ impl Opened {
         let known = self.len.saturating_sub(at).min(into.len() as u64);
         let count = faults.settle(fill(&mut Place::new(&self.file, at), into))?;
         if (count as u64) < known {
-            return faults.refuse();
+            return faults.refuse(Reason::Changed);
         }
         Ok(count)
     }
@@ -194,7 +195,7 @@ impl Opened {
     {
         let end = match at.checked_add(bytes.len() as u64) {
             Some(end) if end <= limit => end,
-            _ => return faults.refuse(),
+            _ => return faults.refuse(Reason::TooLong),
         };
         if !bytes.is_empty() {
             faults.settle(put_all(&mut Place::new(&self.file, at), bytes))?;
@@ -221,7 +222,7 @@ impl Opened {
         self.len = len;
         self.confirm(files, name, faults)?;
         if self.len > len {
-            return faults.refuse();
+            return faults.refuse(Reason::Uncut);
         }
         Ok(())
     }

@@ -2,6 +2,7 @@
 ghost use Rattle.std.specs.Prelude.{◌≡◌};
 ghost use Rattle.rs01_host.specs.Untold.{untold_sink};
 
+use crate::causes::Reason;
 use crate::fault_count::FaultCount;
 use crate::limit::{longest_file, output_place};
 use crate::writing::put_all;
@@ -48,7 +49,7 @@ impl<R: Print + Files + Drop> Sink for StdSink<R> {
 
     fn put(&mut self, bytes: &[u8]) -> Result<(), Failed> {
         if !fits(&self.print, self.limit, bytes.len() as u64) {
-            return self.faults.refuse();
+            return self.faults.refuse(Reason::TooLong);
         }
         self.faults
             .settle(put_all(&mut io::writer(&self.print), bytes))

@@ -3,6 +3,7 @@ ghost use Rattle.std.specs.Prelude.{◌≡◌, ◌<◌, ◌≤◌, true, IfOk, I
 ghost use Rattle.rs01_host.specs.Counting.{Counts};
 ghost use Rattle.rs01_host.specs.Keeping.{IsAlone};
 
+use crate::causes::Reason;
 use crate::fault_count::FaultCount;
 use crate::limit::longest_file;
 use crate::naming::{Identity, file_behind, look_up};
@@ -139,7 +140,7 @@ impl<R: Files<File = File> + AllocGlobal + Drop> System<R> {
     {
         for k in 0..self.kept.len() {
             if k != place && self.kept[k].shares(&self.kept[place]) {
-                return faults.refuse();
+                return faults.refuse(Reason::SecondName);
             }
         }
         Ok(())
@@ -199,7 +200,7 @@ impl<R: Files<File = File> + AllocGlobal + Drop> System<R> {
     {
         match self.open_to_change(name, true, faults)? {
             Some(place) => Ok(place),
-            None => faults.refuse(),
+            None => faults.refuse(Reason::Absent),
         }
     }
 
@@ -214,7 +215,7 @@ impl<R: Files<File = File> + AllocGlobal + Drop> System<R> {
         }
         for k in 0..self.kept.len() {
             if k != place && self.kept[k].opened.begins_as_ecc(faults)? {
-                return faults.refuse();
+                return faults.refuse(Reason::Swapped);
             }
         }
         Ok(())

@@ -1,6 +1,6 @@
 //! Calls on files of the system, each test in a folder of its own.
 use crate::limit::find_number;
-use crate::{FileDesk, FileDrive, StdSink};
+use crate::{Causes, FileDesk, FileDrive, StdSink};
 use rs01_outside::{Desk, Drive, Failed, Sink};
 use std::os::unix::fs::symlink;
 use std::test::Fail;
@@ -438,4 +438,57 @@ fn output_is_taken(rt: HostRuntime) {
     let mut sink = StdSink::new(&rt);
     assert!(rt; sink.put(b"").is_ok() && sink.put(b"put\n").is_ok());
     assert!(rt; sink.faults() == 0);
+}
+
+// Calls on names in this order, and the text of each name's first failure, where one has failed.
+#[test]
+fn the_first_failure_of_each_name_is_kept(rt: HostRuntime) -> Result<(), Fail> {
+    fresh(&rt, "causes")?;
+    fs::write(&rt, "causes/short", "abc")?;
+    let causes = Causes::new(rt.alloc());
+    let mut desk = FileDesk::new(&rt);
+    desk.tell(causes.share());
+    assert_eq!(rt; desk.size("causes/none"), ABSENT);
+    assert_eq!(rt; desk.size("causes"), FAULT);
+    assert_eq!(rt; desk.size("causes/short"), Ok(Some(3)));
+    let mut absent = FileDrive::new(&rt, String::from_str(rt.alloc(), "causes/absent")?);
+    absent.tell(causes.share());
+    assert_eq!(rt; absent.sectors(), Err(Failed));
+    let mut short = FileDrive::new(&rt, String::from_str(rt.alloc(), "causes/short")?);
+    short.tell(causes.share());
+    let mut block = [0u8; 2048];
+    assert_eq!(rt; short.read(0, &mut block), Ok(()));
+    assert_eq!(rt; short.read(1, &mut block), Err(Failed));
+    assert_eq!(rt; desk.make("causes"), Err(Failed));
+    let Some(list) = causes.take() else {
+        assert!(rt; false);
+        return Ok(());
+    };
+    assert_eq!(rt; list.len(), 3);
+    for (k, (name, told)) in [
+        ("causes", "not a file or a block device"),
+        ("causes/absent", "No such file or directory"),
+        ("causes/short", "it ends before a sector that was asked for"),
+    ]
+    .into_iter()
+    .enumerate()
+    {
+        if let Some(cause) = list.get(k) {
+            let reason = cause.reason();
+            let text = format!(in rt.alloc(); "{reason}")?;
+            assert_eq!(rt; (cause.name(), text.as_str()), (name, told));
+        }
+    }
+    assert_eq!(rt; causes.take().map(|rest| rest.len()), Some(0));
+    Ok(())
+}
+
+// One without a list tells nothing, and neither does one that isn't told of calls.
+#[test]
+fn no_list_keeps_nothing(rt: HostRuntime) {
+    let causes = Causes::none();
+    let mut desk = FileDesk::new(&rt);
+    desk.tell(causes.share());
+    assert_eq!(rt; desk.size("."), FAULT);
+    assert!(rt; causes.take().is_none());
 }

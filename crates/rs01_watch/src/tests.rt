@@ -1,7 +1,7 @@
 //! Calls that are handed on and told of.
 use super::*;
 use rs01_fakes::{MemoryDesk, MemorySink};
-use rs01_outside::{Desk, Sink};
+use rs01_outside::{Desk, Gate, Sink};
 use std::cell::Cell;
 use std::process::Abort;
 use std::rc::Rc;
@@ -56,4 +56,14 @@ fn told(rt: HostRuntime) -> Result<(), Fail> {
     assert!(rt; out.put(b"report").is_ok());
     assert_eq!(rt; (bytes.get(), out.faults()), (6, 0));
     Ok(())
+}
+
+#[test]
+fn entries_are_counted(rt: HostRuntime) {
+    let gate = CountingGate::new();
+    assert_eq!(rt; gate.entered(), 0);
+    for (worker, slot, entered) in [(0, 0, 1), (3, 63, 2), (0, 0, 3)] {
+        gate.enter(worker, slot);
+        assert_eq!(rt; gate.entered(), entered);
+    }
 }
