@@ -102,7 +102,7 @@ long_in_file known y s few = length-padded 2048 (part y (2048 * s) (width_of kno
 
 -- a sector that is lacking at the start and good at the end was read
 
-start_flag : (w : Whole) (k : ℕ) → k < (known_in w).sectors → get_or (good_flags w) k true ≡ not (is_lacking w k)
+pub start_flag : (w : Whole) (k : ℕ) → k < (known_in w).sectors → get_or (good_flags w) k true ≡ not (is_lacking w k)
 start_flag w k below = get_or-map-range_with_len (λ s. not (is_lacking w s)) 0 (known_in w).sectors k k true below (let z : 0 + k ≡ k = omega arith in z)
 
 abbrev found_as : Bool → State
@@ -146,7 +146,7 @@ read_good w k block lacks is =
     by None is = absurd is
     by (Some a) is = ap (λ (o : Option (List ℕ)). unwrap_or o []) is
 
-kept_good : (w : Whole) (k : ℕ) → is_lacking w k ≡ false → good_block w k ≡ block_in (known_in w) w.image k
+pub kept_good : (w : Whole) (k : ℕ) → is_lacking w k ≡ false → good_block w k ≡ block_in (known_in w) w.image k
 unfolding good_block
 kept_good w k has = ap (λ (b : Bool). cond b (block_read (asking_in w k)) (block_in (known_in w) w.image k)) has
 

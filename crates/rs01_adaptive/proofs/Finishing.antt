@@ -179,7 +179,7 @@ pub on_the_way : (w : Whole) (asks : ℕ) (s : Sight) → Stands w asks s → Is
 on_the_way w asks s st = record { terms_are = st.terms_are; end_is = st.end_is; mixed = st.mixed; longer = st.longer; surplus = st.surplus }
 
 -- a sector of the file that is left
-left-part : (w : Whole) (s : ℕ) → Sized (known_in w) → Fills (known_in w) (sector_left w) → s < (known_in w).sectors → part (image_left w) (2048 * s) (width (known_in w) s) ≡ sector_left w s
+pub left-part : (w : Whole) (s : ℕ) → Sized (known_in w) → Fills (known_in w) (sector_left w) → s < (known_in w).sectors → part (image_left w) (2048 * s) (width (known_in w) s) ≡ sector_left w s
 left-part w s sized fills below =
     let known = known_in w in
     let n : place known (s + 1) - place known s ≡ width known s = omega (arith, place_more known s sized below) in

@@ -20,3 +20,8 @@ mod ReadyLemmas
 mod TakingLemmas
 mod AloneLemmas
 mod Unprepared
+mod OriginalLemmas
+mod Bounds
+mod ComesBack
+mod OpenedLemmas
+mod BroughtBack

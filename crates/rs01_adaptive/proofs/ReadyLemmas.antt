@@ -45,7 +45,7 @@ use Rattle.rs01_adaptive.proofs.Starting.{Starts, start_sight, starts_may, start
 use Rattle.rs01_adaptive.proofs.Unprepared.{opened_shape, shape_of}
 
 -- each sector that is left has its own bytes
-fills_of : (w : Whole) → Sized (known_in w) → Fills (known_in w) (sector_left w)
+pub fills_of : (w : Whole) → Sized (known_in w) → Fills (known_in w) (sector_left w)
 fills_of w sized s below =
     length-take-le (width (known_in w) s) (block_left w s) (omega (arith, left_long w s below sized.fits, width_le (known_in w) s sized))
 

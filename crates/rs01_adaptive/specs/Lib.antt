@@ -8,3 +8,5 @@ pub mod Settling
 pub mod Preparing
 pub mod Windows
 pub mod Beginning
+pub mod Bounds
+pub mod ComesBack

@@ -4,9 +4,10 @@ ghost use Rattle.std.specs.Option.{ForSome};
 ghost use Rattle.rs01_linear.specs.Outcome.{RefusesBy, UnreadableRose};
 ghost use Rattle.rs01_linear.specs.Racks.{OnRack, seen_by};
 ghost use Rattle.rs01_linear.specs.Lasting.{RackLasts};
-ghost use Rattle.rs01_linear.specs.Refusal.{LeavesAll, TellsFaults, WorksBy};
+ghost use Rattle.rs01_linear.specs.Refusal.{LeavesAll, RefusesSizeAlone, TellsFaults, WorksBy};
 ghost use Rattle.rs01_linear.specs.Report.{IsFresh};
 ghost use Rattle.rs01_linear.specs.Spared.{StaysGood};
+ghost use Rattle.rs01_adaptive.specs.ComesBack.{BringsBack};
 ghost use Rattle.rs01_adaptive.specs.Outcome.{TellsReading};
 ghost use Rattle.rs01_adaptive.specs.Preparing.{CanBegin, ReadsReady};
 
@@ -116,6 +117,9 @@ fn read_prepared<R: Threads + Wait + Sync, D: Desk, G: Gate>(
 /// Whatever the drives give and however it ends, the image file isn't shorter than before, and the sectors that it had
 /// good and the bytes past the image are the same. Each sector that is told to be unreadable raised the count of faults of
 /// each drive.
+///
+/// Where the error correction file is intact, and all that passes for a sector in the image file and in the drives is the
+/// original's, every layer that is within its bound in the end is the original's again.
 pub fn read_adaptive_one<D: Desk>(
     alloc: Global,
     rack: &mut Rack,
@@ -129,11 +133,14 @@ pub fn read_adaptive_one<D: Desk>(
     ensures works { WorksBy image.now (D.state desk.old) (D.state desk.new) result }
     ensures lasts { OnRack ⟦<dyn Drive as Drive>⟧ RackLasts rack.old rack.new }
     ensures causes { IfErr result TellsFaults }
+    ensures size { IfErr result (RefusesSizeAlone ecc.entry) }
     ensures untouched { IfErr result (LeavesAll (D.state desk.old) (D.state desk.new)) }
     ensures unreadable { OnRack ⟦<dyn Drive as Drive>⟧ (UnreadableRose result) rack.old rack.new }
     ensures refused { OnRack ⟦<dyn Drive as Drive>⟧ (RefusesBy result) rack.old rack.new }
     ensures told { OnRack ⟦<dyn Drive as Drive>⟧ (TellsReading (D.state desk.old) (D.state desk.new)
         ecc.entry tries image.now result) rack.old rack.new }
+    ensures comes_back { OnRack ⟦<dyn Drive as Drive>⟧ (BringsBack (D.state desk.old)
+        (D.state desk.new) ecc.entry tries image.now result) rack.old rack.new }
     ensures stays { OnRack ⟦<dyn Drive as Drive>⟧ (StaysGood (D.state desk.old) (D.state desk.new)
         ecc.entry image.now) rack.old rack.new }
 {
@@ -170,11 +177,14 @@ pub fn read_adaptive<R: Threads + Wait + Sync, D: Desk, G: Gate>(
     ensures works { WorksBy image.now (D.state desk.old) (D.state desk.new) result }
     ensures lasts { OnRack ⟦<dyn Drive as Drive>⟧ RackLasts rack.old rack.new }
     ensures causes { IfErr result TellsFaults }
+    ensures size { IfErr result (RefusesSizeAlone ecc.entry) }
     ensures untouched { IfErr result (LeavesAll (D.state desk.old) (D.state desk.new)) }
     ensures unreadable { OnRack ⟦<dyn Drive as Drive>⟧ (UnreadableRose result) rack.old rack.new }
     ensures refused { OnRack ⟦<dyn Drive as Drive>⟧ (RefusesBy result) rack.old rack.new }
     ensures told { OnRack ⟦<dyn Drive as Drive>⟧ (TellsReading (D.state desk.old) (D.state desk.new)
         ecc.entry tries image.now result) rack.old rack.new }
+    ensures comes_back { OnRack ⟦<dyn Drive as Drive>⟧ (BringsBack (D.state desk.old)
+        (D.state desk.new) ecc.entry tries image.now result) rack.old rack.new }
     ensures stays { OnRack ⟦<dyn Drive as Drive>⟧ (StaysGood (D.state desk.old) (D.state desk.new)
         ecc.entry image.now) rack.old rack.new }
 {

@@ -3,6 +3,7 @@ ghost use Rattle.std.specs.Prelude.{◌≡◌, IfOk};
 ghost use Rattle.rs01_linear.specs.Report.{IsFresh};
 ghost use Rattle.rs01_reader.specs.Settled.{IsShapeOf};
 ghost use Rattle.rs01_states.specs.Sparing.{layer_count};
+ghost use Rattle.rs01_adaptive.specs.Beginning.{IsBegun};
 
 use crate::noting::Noted;
 use rs01_erase::CorrectTask;
@@ -19,8 +20,6 @@ pub struct Start {
     pub course: Course,
     pub noted: Noted,
 }
-
-ghost use Rattle.rs01_adaptive.specs.Beginning.{IsBegun};
 
 // The shape of the error correction file, where one is given.
 fn shape_of(medium: &Medium) -> Option<Shape>

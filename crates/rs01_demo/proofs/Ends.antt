@@ -1,25 +1,27 @@
 -- The ways that every demonstration ends, whoever works its layers.
-use Rattle.std.proofs.Common.{◌≡◌, ◌≢◌, ◌∙◌, ℕ, List, ap, subst, sym, refl, arith, Bool, true, false}
-use Rattle.std.specs.Prelude.{IsTrue, Result, Ok, Err}
+use Rattle.std.proofs.Common.{◌≡◌, ◌≢◌, ◌∙◌, ℕ, List, subst, sym, refl, arith, Bool, true, false}
+use Rattle.std.specs.Prelude.{IsTrue, Some, Result, Ok, Err}
 use Rattle.rs01_outside.specs.Causes.{Rose}
 use Rattle.rs01_outside.specs.DeskState.{DeskState, OnlyChanges, OnlyReads, WorksOn}
 use Rattle.rs01_outside.specs.declared.Failed.{Failed}
 use Rattle.rs01_outside.proofs.States.{works-changes, works-reads}
+use Rattle.rs01_create.specs.Creating.{IsCreate}
 use Rattle.rs01_create.specs.declared.refusal.CreateRefusal.{CreateRefusal}
 use Rattle.rs01_ecchead.specs.Walked.{is_walk_fault}
 use Rattle.rs01_ecchead.specs.declared.walk.WalkFault.{WalkFault}
 use Rattle.rs01_ecchead.specs.declared.walk.WalkFault.TheVariants as walk
+use Rattle.rs01_fix.specs.Fixing.{IsFix}
 use Rattle.rs01_fix.specs.declared.refusal.FixRefusal.{FixRefusal}
 use Rattle.rs01_report.specs.declared.reports.CreateReport.{CreateReport}
 use Rattle.rs01_report.specs.declared.reports.FixReport.{FixReport}
-use Rattle.rs01_demo.specs.Faults.{CountsFaults, IsFault, Works, WorksOnTwo, WorksTwo, reads_badly, walk_refusal, writes_badly}
+use Rattle.rs01_demo.specs.Faults.{CountsFaults, IsFault, WorksOnTwo, reads_badly, walk_refusal, writes_badly}
 use Rattle.rs01_demo.specs.Plan.{IsInRange, original}
 use Rattle.rs01_demo.specs.Showing.{IsDemo, IsProtected, IsReadied, IsRepaired}
 use Rattle.rs01_demo.specs.Steps.{IsPartly, Marks, TellsOf}
 use Rattle.rs01_demo.specs.declared.demonstration.Demonstration.{Demonstration}
 use Rattle.rs01_demo.specs.declared.plan.Plan.{Plan}
 use Rattle.rs01_demo.specs.declared.refusal.DemoRefusal.{DemoRefusal}
-use Rattle.rs01_demo.specs.declared.refusal.DemoRefusal.TheVariants.{Create, Fix, ReadFault, WriteFault, OutOfMemory}
+use Rattle.rs01_demo.specs.declared.refusal.DemoRefusal.TheVariants.{Create, Fix, WriteFault}
 use Rattle.rs01_demo.proofs.SetUpLemmas.{making_stops, marking_stops, protecting_stops, set_up_is}
 use Rattle.rs01_demo.proofs.ToldLemmas.{repairing_stops, shown_so, telling_stops}
 
@@ -70,6 +72,19 @@ not_made plan image ecc old new why differ works fault partly = record {
   works = on_image image ecc old new (reads_badly why) (writes_badly why) works;
   answer = λ t. making_stops plan image ecc old.files new.files why differ fault (works.elsewhere t) (partly t);
 }
+
+-- the image was made, and then its error correction file was to be
+pub protected_by : (plan : Plan) (image ecc : List ℕ) (old start now : DeskState) (made : Result CreateReport CreateRefusal) → image ≢ ecc → IsInRange plan
+    → WorksOn image old start false false → (IsTrue old.tells → start.files image ≡ Some (original plan)) → IsCreate image ecc plan.parity start now made
+    → IsProtected plan image ecc old now made
+protected_by plan image ecc old start now made differ range works image_is creates =
+    record { differ = differ; range = range; start = start; works = works; image_is = image_is; creates = creates }
+
+-- both were readied, and then the image was to be repaired
+pub repaired_by : (plan : Plan) (image ecc : List ℕ) (old start now : DeskState) (sum : List ℕ) (fixed : Result FixReport FixRefusal) → image ≢ ecc → IsInRange plan
+    → IsReadied plan image ecc old start (Ok sum) → IsFix image ecc false start now fixed → IsRepaired plan image ecc old now sum fixed
+repaired_by plan image ecc old start now sum fixed differ range readied fixes =
+    record { differ = differ; range = range; start = start; readied = readied; fixes = fixes }
 
 -- what was told of a step, by another name
 made_as : (plan : Plan) (image ecc : List ℕ) (old now : DeskState) (one other : Result CreateReport CreateRefusal) → one ≡ other

@@ -1,4 +1,6 @@
 //! Showing what the codec does: an image is made, protected, damaged and repaired.
+//!
+//! The types that its calls name are handed on, so that a caller names this crate alone.
 #![tactic(auto)]
 
 mod comparing;
@@ -14,4 +16,9 @@ mod telling;
 
 pub use demonstration::Demonstration;
 pub use refusal::DemoRefusal;
+pub use rs01_create::CreateRefusal;
+pub use rs01_ecchead::{HeadRefusal, Which};
+pub use rs01_fix::FixRefusal;
+pub use rs01_outside::{Desk, Gate};
+pub use rs01_report::DemoReport;
 pub use showing::{demo, demo_one};

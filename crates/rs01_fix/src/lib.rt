@@ -1,4 +1,6 @@
 //! Repairing an image by its error correction file.
+//!
+//! The types that its calls name are handed on, so that a caller names this crate alone.
 #![tactic(auto)]
 
 mod course;
@@ -16,6 +18,9 @@ mod windows;
 
 pub use fixing::{fix, fix_one};
 pub use refusal::FixRefusal;
+pub use rs01_ecchead::{HeadRefusal, Which};
+pub use rs01_outside::{Desk, Gate};
+pub use rs01_report::{FixReport, SectorList, Strange, StrangeList, Why};
 
 #[cfg(test)]
 mod tests;

@@ -1,13 +1,14 @@
 -- What becomes of the drives while a medium is opened.
-use Rattle.std.proofs.Common.{◌≡◌, ℕ, ◌^◌, ◌<◌, ◌∙◌, sym}
-use Rattle.std.specs.Prelude.{Option, Result, Ok, Err}
+use Rattle.std.proofs.Common.{◌≡◌, ℕ, ◌^◌, ◌<◌, ◌∙◌, List, Bor, refl, sym}
+use Rattle.std.specs.Prelude.{IfErr, Option, Some, None, Result, Ok, Err}
 use Rattle.rs01_rack.specs.Rack.{RackState}
 use Rattle.rs01_rack.specs.Counting.{GivesNumber}
 use Rattle.rs01_rack.specs.Counting as counting
 use Rattle.rs01_rack.specs.declared.refusal.RackRefusal.{RackRefusal}
 use Rattle.rs01_rack.specs.declared.refusal.RackRefusal.TheVariants.{Differ, Failed, NoDrive}
 use Rattle.rs01_ecchead.specs.declared.opened.Ecc.{Ecc}
-use Rattle.rs01_linear.specs.Medium.{Finds, HasCause, MakesMedium}
+use Rattle.rs01_linear.specs.Medium.{Finds, HasCause, IsGiven, MakesMedium}
+use Rattle.rs01_linear.specs.Refusal.{RefusesSizeAlone}
 use Rattle.rs01_linear.specs.declared.medium.Medium.{Medium}
 use Rattle.rs01_linear.specs.declared.refusal.ReadRefusal.{ReadRefusal}
 use Rattle.rs01_linear.specs.declared.refusal.ReadRefusal.TheVariants as refusal
@@ -46,3 +47,14 @@ finds_number ecc n (Err why) old new made small gives cause = rw made.why_is (re
   gives = (gives, made.unfit);
   cause = cause;
 })
+
+some_none : (x : Ecc) → Some x ≡ None → ⊥
+some_none x e = cc
+
+-- they gave one that no medium without a file has, so no file was named
+pub size_alone : (ecc : Option (Bor (List ℕ))) (opened : Option Ecc) (n : ℕ) (answer : Result Medium ReadRefusal) → IsGiven ecc opened → MakesMedium opened n answer
+    → IfErr answer (RefusesSizeAlone ecc)
+size_alone ecc opened n (Ok medium) given made = tt
+size_alone None opened n (Err why) given made = rw made.why_is refl
+size_alone (Some name) None n (Err why) given made = absurd given
+size_alone (Some name) (Some file) n (Err why) given made = absurd (some_none file made.no_file)

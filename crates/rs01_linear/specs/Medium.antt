@@ -79,11 +79,11 @@ IsKnownBy (Some file) known = IsOkAnd (opened_file file) (λ c. known ≡ known_
 abbrev pub TellsKnown : DeskState → Option (Bor (List ℕ)) → Result Medium ReadRefusal → Type 0
 TellsKnown desk ecc answer = IsTrue desk.tells → IfOk answer (λ medium. IsKnownBy (file_given desk ecc) (known_of medium))
 
--- a file is opened only where its name is given, whatever the desk tells
+-- a file is opened exactly where its name is given, whatever the desk tells
 abbrev pub IsGiven : Option (Bor (List ℕ)) → Option Ecc → Type 0
 IsGiven None None = Unit {0}
 IsGiven None (Some opened) = ⊥
-IsGiven (Some name) None = Unit {0}
+IsGiven (Some name) None = ⊥
 IsGiven (Some name) (Some opened) = Unit {0}
 
 -- an error correction file that may be given is opened, or told why not

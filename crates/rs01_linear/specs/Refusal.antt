@@ -1,5 +1,6 @@
 -- Why a medium wasn't read.
-use Rattle.std.specs.Prelude.{◌≡◌, Bool, false, true, IfErr, IsTrue, List, Result, Ok, Err, ℕ}
+use Rattle.std.specs.Prelude.{◌≡◌, Bool, false, true, IfErr, IsTrue, List, Option, None, Result, Ok, Err, ℕ}
+use Rattle.std.specs.Borrow.{Bor}
 use Rattle.rs01_outside.specs.DeskState.{DeskState, WorksOn}
 use Rattle.rs01_ecchead.specs.Opened.{IsOfFile}
 use Rattle.rs01_ecchead.specs.Opening.{TellsTwo}
@@ -116,6 +117,15 @@ TellsFaults (DriveSize n) = Unit {0}
 TellsFaults ReadFault = Unit {0}
 TellsFaults WriteFault = Unit {0}
 TellsFaults OutOfMemory = Unit {0}
+
+-- the number of sectors in the drives refuses a medium only where no error correction file is named
+abbrev pub RefusesSizeAlone : Option (Bor (List ℕ)) → ReadRefusal → Type 0
+RefusesSizeAlone ecc (Ecc why) = Unit {0}
+RefusesSizeAlone ecc (Rack why) = Unit {0}
+RefusesSizeAlone ecc (DriveSize n) = ecc ≡ None
+RefusesSizeAlone ecc ReadFault = Unit {0}
+RefusesSizeAlone ecc WriteFault = Unit {0}
+RefusesSizeAlone ecc OutOfMemory = Unit {0}
 
 -- a medium that is refused is refused before any file is touched, whatever the drives tell
 abbrev pub LeavesAll : (old new : DeskState) → ReadRefusal → Type 0

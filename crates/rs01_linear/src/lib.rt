@@ -1,4 +1,6 @@
 //! Reading a medium from its drives in rising order.
+//!
+//! The types that its calls name are handed on, so that a caller names this crate alone.
 #![tactic(auto)]
 
 mod asking;
@@ -22,4 +24,8 @@ pub use medium::Medium;
 pub use opening::open_medium;
 pub use prepared::{Prepared, prepare};
 pub use refusal::ReadRefusal;
+pub use rs01_ecchead::{EccRefusal, HeadRefusal, Which};
+pub use rs01_outside::{Desk, Drive};
+pub use rs01_rack::{Rack, RackRefusal};
+pub use rs01_report::{ReadReport, SectorList, Strange, StrangeList, Why};
 pub use telling::report;

@@ -8,7 +8,7 @@ ghost use Rattle.rs01_linear.specs.Outcome.{RefusesBy, TellsReading, UnreadableR
 ghost use Rattle.rs01_linear.specs.Racks.{OnRack, seen_by};
 ghost use Rattle.rs01_linear.specs.Report.{IsFresh};
 ghost use Rattle.rs01_linear.specs.Spared.{StaysGood};
-ghost use Rattle.rs01_linear.specs.Refusal.{IsOfWork, LeavesAll, TellsFaults, WorksBy};
+ghost use Rattle.rs01_linear.specs.Refusal.{IsOfWork, LeavesAll, RefusesSizeAlone, TellsFaults, WorksBy};
 
 use crate::medium::Medium;
 use crate::opening::open_medium;
@@ -94,6 +94,7 @@ pub fn read_linear<D: Desk>(
     ensures works { WorksBy image.now (D.state desk.old) (D.state desk.new) result }
     ensures lasts { OnRack ⟦<dyn Drive as Drive>⟧ RackLasts rack.old rack.new }
     ensures causes { IfErr result TellsFaults }
+    ensures size { IfErr result (RefusesSizeAlone ecc.entry) }
     ensures untouched { IfErr result (LeavesAll (D.state desk.old) (D.state desk.new)) }
     ensures unreadable { OnRack ⟦<dyn Drive as Drive>⟧ (UnreadableRose result) rack.old rack.new }
     ensures refused { OnRack ⟦<dyn Drive as Drive>⟧ (RefusesBy result) rack.old rack.new }

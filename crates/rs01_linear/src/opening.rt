@@ -3,7 +3,7 @@ ghost use Rattle.std.specs.Prelude.{◌≤◌, IfErr, IfOk, length};
 ghost use Rattle.rs01_outside.specs.DeskState.{OnlyReads};
 ghost use Rattle.rs01_linear.specs.Medium.{Finds, IsGiven, MakesMedium, TellsFound, TellsKnown, TellsOpened};
 ghost use Rattle.rs01_linear.specs.Racks.{OnRack};
-ghost use Rattle.rs01_linear.specs.Refusal.{IsOfOpening, IsOfReading, is_read_fault};
+ghost use Rattle.rs01_linear.specs.Refusal.{IsOfOpening, IsOfReading, RefusesSizeAlone, is_read_fault};
 
 use crate::medium::Medium;
 use crate::refusal::ReadRefusal;
@@ -73,6 +73,7 @@ pub fn open_medium<D: Desk>(
     ensures opened { TellsKnown (D.state desk.old) ecc.entry result }
     ensures given { IfOk result (λ medium. IsGiven ecc.entry medium.ecc) }
     ensures causes { IfErr result IsOfReading }
+    ensures size { IfErr result (RefusesSizeAlone ecc.entry) }
 {
     let opened = open_given(alloc, desk, ecc)?;
     let number = rack.sectors()?;

@@ -31,7 +31,7 @@ use Rattle.rs01_turns.proofs.Leading.{give-leads, leads-on, read-leads}
 use Rattle.rs01_reader.specs.Courses.{CourseSeen}
 use Rattle.rs01_reader.specs.Inputs.{CanRead, IsBuilt, IsBuiltBy, is_gone}
 use Rattle.rs01_reader.specs.Settled.{Fits, Going, Halted, IsInputAt, IsInputBy, IsNamed, IsSet, IsShapeOf, Settled, block_at, gone_at, moment}
-use Rattle.rs01_reader.specs.Steps.{Counts, Gives, GivesLayer, IsOfReading, Picked, Picks, is_read_stop}
+use Rattle.rs01_reader.specs.Steps.{Counts, Gives, GivesLayer, IsOfReading, IsWaiting, Picked, Picks, is_read_stop}
 use Rattle.rs01_reader.specs.declared.setup.Setup.{Setup}
 use Rattle.rs01_reader.specs.declared.stop.Stop.{Stop}
 use Rattle.rs01_reader.specs.declared.stop.Stop.TheVariants.{OutOfMemory, ReadFault, WriteFault}
@@ -238,8 +238,8 @@ picked-of setup c0 c2 d0 d2 r0 r2 o l e picks = (subst (λ (x : Option ℕ). Pic
 gives-at :
     (setup : Setup) (c0 c2 : CourseSeen) (d0 d2 d3 : DeskState) (r0 r2 : RackState) (l : ℕ) (input : LayerInput) (failed : Bool) → Going (moment setup c0 r0 d0)
     → Leads (moment setup c0 r0 d0) (moment setup c2 r2 d2) → Counts setup d0 d3 (Ok (Some input)) r0 r2 → Picked setup c0 c2 d2 r2 l → OnlyReads d2 d3 failed → IsBuiltBy setup c2 d2 l input
-    → Gives setup c0 (record c2 { given = c2.given ++ l ∷ [] }) d0 d3 (Ok (Some input)) r0 r2
-gives-at setup c0 c2 d0 d2 d3 r0 r2 l input failed going leads counts picked reads built =
+    → ((k : ℕ) → IsWaiting c0 k → (r2 ≡ r0) × (l ≤ k)) → Gives setup c0 (record c2 { given = c2.given ++ l ∷ [] }) d0 d3 (Ok (Some input)) r0 r2
+gives-at setup c0 c2 d0 d2 d3 r0 r2 l input failed going leads counts picked reads built first =
     let more = c2.given ++ l ∷ [] in
     let c3 : CourseSeen = record c2 { given = more } in
     let all = leads-on (moment setup c0 r0 d0) (moment setup c2 r2 d2) (moment setup c3 r2 d3) leads
@@ -256,6 +256,7 @@ gives-at setup c0 c2 d0 d2 d3 r0 r2 l input failed going leads counts picked rea
         };
         going = going-read setup c3 r2 d2 d3 failed reads picked.going;
       };
+      first = λ k w. let f = first k w in (f.0, subst (λ (n : ℕ). n ≤ k) (sym built.layer) f.1);
     }
 
 pub gives-input :
@@ -263,7 +264,8 @@ pub gives-input :
     → Picks setup c0 c2 d0 d2 (Ok o) r0 r2 → OnlyReads d2 d3 failed → failed ≡ false → GivesLayer setup c2 c3 d2 l (Ok input) → Gives setup c0 c3 d0 d3 (Ok (Some input)) r0 r2
 gives-input setup c0 c2 c3 d0 d2 d3 r0 r2 o l input failed going e picks reads not_ gives =
     subst (λ (v : CourseSeen). Gives setup c0 v d0 d3 (Ok (Some input)) r0 r2) (sym gives.0)
-    (gives-at setup c0 c2 d0 d2 d3 r0 r2 l input failed going picks.leads (counts-read setup d0 d2 d3 r0 r2 o (Some input) failed not_ picks.counts reads) (picked-of setup c0 c2 d0 d2 r0 r2 o l e picks) reads gives.1)
+    (gives-at setup c0 c2 d0 d2 d3 r0 r2 l input failed going picks.leads (counts-read setup d0 d2 d3 r0 r2 o (Some input) failed not_ picks.counts reads) (picked-of setup c0 c2 d0 d2 r0 r2 o l e picks) reads gives.1
+    (subst (λ (x : Option ℕ). Picks setup c0 c2 d0 d2 (Ok x) r0 r2) e picks).first)
 
 pub gives-none :
     (setup : Setup) (c0 c2 : CourseSeen) (d0 d2 : DeskState) (r0 r2 : RackState) (o : Option ℕ) → Going (moment setup c0 r0 d0) → o ≡ None → Picks setup c0 c2 d0 d2 (Ok o) r0 r2
@@ -273,6 +275,7 @@ gives-none setup c0 c2 d0 d2 r0 r2 o going e picks = record {
   counts = counts-as setup d0 d2 r0 r2 o None picks.counts;
   kept = λ x fits. fits-goes-on (moment setup c0 r0 d0) (moment setup c2 r2 d2) x picks.leads going.set_up fits;
   ended = (subst (λ (x : Option ℕ). Picks setup c0 c2 d0 d2 (Ok x) r0 r2) e picks).none;
+  first = (subst (λ (x : Option ℕ). Picks setup c0 c2 d0 d2 (Ok x) r0 r2) e picks).first;
 }
 
 pub gives-stop :
@@ -283,6 +286,7 @@ gives-stop setup c0 c2 d0 d2 r0 r2 stop going picks = record {
   counts = counts-stop setup d0 d2 r0 r2 stop picks.counts;
   kept = λ x fits. fits-goes-on (moment setup c0 r0 d0) (moment setup c2 r2 d2) x picks.leads going.set_up fits;
   ended = picks.halted;
+  first = picks.first;
 }
 
 -- reading a layer back failed
@@ -294,14 +298,16 @@ stopped-by setup c rack d d' OutOfMemory reads of before = tt
 
 fails-at :
     (setup : Setup) (c0 c2 : CourseSeen) (d0 d2 d3 : DeskState) (r0 r2 : RackState) (l : ℕ) (stop : Stop) → Going (moment setup c0 r0 d0) → Leads (moment setup c0 r0 d0) (moment setup c2 r2 d2)
-    → Counts {T = Option LayerInput} setup d0 d3 (Err stop) r0 r2 → Picked setup c0 c2 d2 r2 l → OnlyReads d2 d3 (is_read_stop {T = LayerInput} (Err stop)) → IsOfReading stop → Gives setup c0 c2 d0 d3 (Err stop) r0 r2
-fails-at setup c0 c2 d0 d2 d3 r0 r2 l stop going leads counts picked reads of =
+    → Counts {T = Option LayerInput} setup d0 d3 (Err stop) r0 r2 → Picked setup c0 c2 d2 r2 l → OnlyReads d2 d3 (is_read_stop {T = LayerInput} (Err stop)) → IsOfReading stop
+    → ((k : ℕ) → IsWaiting c0 k → r2 ≡ r0) → Gives setup c0 c2 d0 d3 (Err stop) r0 r2
+fails-at setup c0 c2 d0 d2 d3 r0 r2 l stop going leads counts picked reads of first =
     let all = leads-on (moment setup c0 r0 d0) (moment setup c2 r2 d2) (moment setup c2 r2 d3) leads (read-leads (moment setup c2 r2 d2) d3 _ reads) in
     record {
       leads = all;
       counts = counts;
       kept = λ x fits. fits-goes-on (moment setup c0 r0 d0) (moment setup c2 r2 d3) x all going.set_up fits;
       ended = record { given_same = picked.given_same; halted = stopped-by setup c2 r2 d2 d3 stop reads of picked.going.reads_rise };
+      first = λ k w. (first k w, tt);
     }
 
 pub gives-fails :
@@ -309,4 +315,5 @@ pub gives-fails :
     → Picks setup c0 c2 d0 d2 (Ok o) r0 r2 → OnlyReads d2 d3 (is_read_stop {T = LayerInput} (Err stop)) → GivesLayer setup c2 c3 d2 l (Err stop) → Gives setup c0 c3 d0 d3 (Err stop) r0 r2
 gives-fails setup c0 c2 c3 d0 d2 d3 r0 r2 o l stop going e picks reads gives =
     subst (λ (v : CourseSeen). Gives setup c0 v d0 d3 (Err stop) r0 r2) (sym gives.0)
-    (fails-at setup c0 c2 d0 d2 d3 r0 r2 l stop going picks.leads (counts-fails setup d0 d2 d3 r0 r2 o stop gives.1 picks.counts reads) (picked-of setup c0 c2 d0 d2 r0 r2 o l e picks) reads gives.1)
+    (fails-at setup c0 c2 d0 d2 d3 r0 r2 l stop going picks.leads (counts-fails setup d0 d2 d3 r0 r2 o stop gives.1 picks.counts reads) (picked-of setup c0 c2 d0 d2 r0 r2 o l e picks) reads gives.1
+    (λ k w. (picks.first k w).0))

@@ -12,7 +12,7 @@ use Rattle.rs01_turns.proofs.Layering.{within-goes-on}
 use Rattle.rs01_turns.proofs.Leading.{leads-on, look-leads, one-element, ready-on}
 use Rattle.rs01_reader.specs.Courses.{CourseSeen, IsSpared, LooksAtAll, LooksTo}
 use Rattle.rs01_reader.specs.Settled.{Going, Halted, IsSet, Settled, moment}
-use Rattle.rs01_reader.specs.Steps.{Ends, GaveNone, GaveUp, OnlyAsked, Picked, Picks, ReadsOn, Settles, WriteFailed}
+use Rattle.rs01_reader.specs.Steps.{Ends, GaveNone, GaveUp, IsWaiting, OnlyAsked, Picked, Picks, ReadsOn, Settles, WriteFailed}
 use Rattle.rs01_reader.specs.declared.setup.Setup.{Setup}
 use Rattle.rs01_reader.specs.declared.stop.Stop.{Stop}
 use Rattle.rs01_reader.proofs.OnLemmas.{rose-from}
@@ -176,6 +176,17 @@ later-stops setup c0 c1 c2 d1 d2 r1 r2 stop given going only failed =
       halted = subst (λ (x : Stop). Halted (moment setup c2 r2 d2) x) (sym failed.stop_is) (rose-from c2.kept_writes d1.write_faults d2.write_faults (omega (arith, kept, before)) failed.rose);
     }
 
+-- once all layers were looked at, none waits
+none-waiting : (c0 c1 : CourseSeen) (l : ℕ) → LooksAtAll c0 c1 → IsWaiting c0 l → ⊥
+none-waiting c0 c1 l looks w = false≢true (sym (looks.none l w.from w.there) ∙ w.within)
+
+-- the one that is found is the lowest of those that wait
+pub lowest-first : (c0 c1 : CourseSeen) (l k : ℕ) → LooksTo c0 c1 l → IsWaiting c0 k → l ≤ k
+lowest-first c0 c1 l k looks w = ⊎_elim
+    (λ before. absurd (false≢true (sym (looks.before k w.from before) ∙ w.within)))
+    (λ late. late)
+    (cases_lt k l)
+
 -- how the look for a layer ends, by how reading on ended
 
 given-looked : (c0 c1 : CourseSeen) → LooksAtAll c0 c1 → c1.given ≡ c0.given
@@ -199,6 +210,7 @@ picks-some setup c0 c1 c2 d1 d2 r1 r2 o l going looks e reads =
       counts = found.counts;
       picked = later-picks setup c0 c1 c2 d1 d2 r1 r2 l (given-looked c0 c1 looks) (looked-going setup c0 c1 r1 d1 going looks) (all-looked c0 c1 looks) found.leads found.only found.spared found.settles;
       none = tt;
+      first = λ k w. absurd (none-waiting c0 c1 k looks w);
       halted = tt;
     }
 
@@ -212,6 +224,7 @@ picks-none setup c0 c1 c2 d1 d2 r1 r2 o going looks e reads =
       counts = found.counts;
       picked = tt;
       none = later-none setup c0 c1 c2 d1 d2 r1 r2 (given-looked c0 c1 looks) (looked-going setup c0 c1 r1 d1 going looks) (all-looked c0 c1 looks) found.only found.ends;
+      first = λ k w. absurd (none-waiting c0 c1 k looks w);
       halted = tt;
     }
 
@@ -223,5 +236,6 @@ picks-stop setup c0 c1 c2 d1 d2 r1 r2 stop going looks reads = record {
   counts = reads.counts;
   picked = tt;
   none = tt;
+  first = λ k w. absurd (none-waiting c0 c1 k looks w);
   halted = later-stops setup c0 c1 c2 d1 d2 r1 r2 stop (given-looked c0 c1 looks) (looked-going setup c0 c1 r1 d1 going looks) reads.only reads.halted;
 }

@@ -1,5 +1,6 @@
 -- What each step of a reader makes of it.
-use Rattle.std.specs.Prelude.{ℕ, ◌≡◌, ◌*◌, ◌⊎◌, ◌++◌, ◌∷◌, [], Bool, false, true, Contains, IfErr, IfNone, IfOk, IfSome, IsTrue, List, take, Option, Some, None, Result, Ok, Err}
+use Rattle.std.specs.Prelude.{ℕ, ◌≡◌, ◌<◌, ◌≤◌, ◌*◌, ◌⊎◌, ◌++◌, ◌∷◌, [], Bool, false, true, Contains, IfErr, IfNone, IfOk, IfSome, IsTrue, List, take, Option, Some, None, Result, Ok, Err}
+use Rattle.std.specs.Option.{option_map}
 use Rattle.rs01_layers.specs.Sectors.{length_of}
 use Rattle.rs01_layers.specs.declared.extent.Extent.{Extent}
 use Rattle.rs01_layers.specs.declared.input.LayerInput.{LayerInput}
@@ -7,7 +8,7 @@ use Rattle.rs01_outside.specs.Causes.{Rose}
 use Rattle.rs01_outside.specs.DeskState.{DeskState, WorksOn}
 use Rattle.rs01_outside.specs.Files.{WritesAt}
 use Rattle.rs01_rack.specs.Rack.{RackState}
-use Rattle.rs01_states.specs.Sparing.{is_within}
+use Rattle.rs01_states.specs.Sparing.{is_within, layer_count}
 use Rattle.rs01_linear.specs.Lasting.{RackLasts}
 use Rattle.rs01_linear.specs.declared.asking.Asked.{Asked}
 use Rattle.rs01_turns.specs.Leads.{Leads}
@@ -119,12 +120,28 @@ pub record GaveUp (setup : Setup) (old new : CourseSeen) (desk' : DeskState) (ra
   pub given_same : new.given ≡ old.given
   pub halted : Halted (moment setup new rack' desk') stop
 
+-- a layer that is within its bound and wasn't looked at yet
+pub record IsWaiting (course : CourseSeen) (l : ℕ) : Type 0 where
+  pub from : course.first ≤ l
+  pub there : l < layer_count course.shape
+  pub within : is_within course.shape l course.states ≡ true
+
+-- it is the layer that is given, or a lower one is
+abbrev pub IsNext : ℕ → Option ℕ → Type 0
+IsNext l None = ⊥
+IsNext l (Some layer) = layer ≤ l
+
+-- where a layer waits, no sector is asked for, and it is given next unless a lower one is
+abbrev pub ComesFirst : {T : Type 0} → (T → Option ℕ) → CourseSeen → Result T Stop → (rack rack' : RackState) → Type 0
+ComesFirst given_by old result rack rack' = (l : ℕ) → IsWaiting old l → (rack' ≡ rack) × IfOk result (λ given. IsNext l (given_by given))
+
 -- how looking for the next settled layer ends
 pub record Picks (setup : Setup) (old new : CourseSeen) (desk desk' : DeskState) (result : Result (Option ℕ) Stop) (rack rack' : RackState) : Type 0 where
   pub leads : Leads (moment setup old rack desk) (moment setup new rack' desk')
   pub counts : Counts setup desk desk' result rack rack'
   pub picked : IfOk result (λ found. IfSome found (Picked setup old new desk' rack'))
   pub none : IfOk result (λ found. IfNone found (GaveNone setup old new desk' rack'))
+  pub first : ComesFirst (λ (found : Option ℕ). found) old result rack rack'
   pub halted : IfErr result (GaveUp setup old new desk' rack')
 
 -- a stop that comes from reading files or from want of memory
@@ -155,3 +172,4 @@ pub record Gives (setup : Setup) (old new : CourseSeen) (desk desk' : DeskState)
   pub counts : Counts setup desk desk' result rack rack'
   pub kept : (input : LayerInput) → Fits (moment setup old rack desk) input → Fits (moment setup new rack' desk') input
   pub ended : Ended setup old new desk' rack' result
+  pub first : ComesFirst (λ (given : Option LayerInput). option_map (λ (input : LayerInput). input.layer) given) old result rack rack'

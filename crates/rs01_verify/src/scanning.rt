@@ -5,7 +5,7 @@ ghost use Rattle.rs01_layers.specs.Layout.{layers_of};
 ghost use Rattle.rs01_outside.specs.DeskState.{OnlyReads};
 ghost use Rattle.rs01_rack.specs.Rack.{AllTell, views_of};
 ghost use Rattle.rs01_linear.specs.Racks.{seen_by};
-ghost use Rattle.rs01_linear.specs.Refusal.{IsOfReading, is_read_fault};
+ghost use Rattle.rs01_linear.specs.Refusal.{IsOfReading, RefusesSizeAlone, is_read_fault};
 ghost use Rattle.rs01_verify.specs.Fullness.{fullest_of};
 ghost use Rattle.rs01_verify.specs.Scan.{IsScanOf, Scans};
 ghost use Rattle.rs01_verify.specs.Scanned.{CountedFor, EndsAsking, IsBare, Keeps, TellsScan, condition_from};
@@ -120,6 +120,7 @@ pub fn scan<D: Desk>(
     ensures asked { Scans result (seen_by ⟦<dyn Drive as Drive>⟧ rack.old)
         (seen_by ⟦<dyn Drive as Drive>⟧ rack.new) }
     ensures causes { IfErr result IsOfReading }
+    ensures size { IfErr result (RefusesSizeAlone ecc.entry) }
     ensures answer { let drives = seen_by ⟦<dyn Drive as Drive>⟧ in
         IsTrue (D.state desk.old).tells → AllTell (drives rack.new)
         → IsScanOf (option_map (λ name. (D.state desk.old).files name.now) ecc.entry)

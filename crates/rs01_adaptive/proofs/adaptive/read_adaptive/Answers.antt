@@ -1,27 +1,21 @@
-use Rattle.std.proofs.Common.{◌∙◌, ap, inl, sym, subst}
-use Rattle.std.specs.Prelude.{Err, IsTrue}
-use Rattle.std.proofs.lemmas.Result.{err_from_is_err_and}
-use Rattle.rs01_outside.specs.Files.{Files}
-use Rattle.rs01_linear.specs.Medium.{known_of}
-use Rattle.rs01_linear.specs.Refusal.{IsOfWork}
-use Rattle.rs01_linear.proofs.EndLemmas.{ends_unopened}
-use Rattle.rs01_linear.proofs.LastingLemmas.{lasts_then, told_before}
-use Rattle.rs01_linear.proofs.MarkLemmas.{sized_by}
+use Rattle.rs01_linear.proofs.LastingLemmas.{lasts_then}
 use Rattle.rs01_linear.proofs.RoseLemmas.{rose_after}
-use Rattle.rs01_linear.proofs.StayLemmas.{spared, spared_unprepared}
-use Rattle.rs01_adaptive.proofs.AloneLemmas.{turned_left, turned_read}
-use Rattle.rs01_adaptive.proofs.Starting.{prepared_long}
-use Rattle.rs01_adaptive.proofs.Unprepared.{found_as, named, turned_unprepared}
+use Rattle.rs01_adaptive.proofs.BroughtBack.{back_read, none_back}
+use Rattle.rs01_adaptive.proofs.OpenedLemmas.{
+  can_begin,
+  stays_read,
+  stays_unopened,
+  stays_unprepared,
+  told_left,
+  told_read,
+  told_unopened,
+  told_unprepared,
+}
 use Rattle.rs01_adaptive.proofs.adaptive.read_adaptive.Goals as goal
 
 pub read_prepared-requires-clause-can : goal.read_prepared-requires-clause-can
-read_prepared-requires-clause-can g c κs within = record {
-  tries = c.requires.tries.0;
-  named = named c.in_ok-medium.medium.ecc c.args.ecc c.args.image.now c.in_ok-medium.ensures.given c.requires.names;
-  places = λ t.
-      prepared_long (known_of c.in_ok-medium.medium) _ _ c.in_ok-prepared.prepared (sized_by c.in_ok-medium.medium.extent _)
-      (c.in_ok-prepared.ensures.told (subst IsTrue c.in_ok-prepared.ensures.works.tells t));
-}
+read_prepared-requires-clause-can g c κs within =
+    can_begin _ c.in_ok-prepared.prepared _ _ c.requires.tries.0 c.in_ok-medium.ensures.given c.requires.names c.in_ok-prepared.ensures.works c.in_ok-prepared.ensures.told
 
 pub returns-in_err-read_prepared-clause-lasts : goal.returns-in_err-read_prepared-clause-lasts
 returns-in_err-read_prepared-clause-lasts g c = lasts_then _ _ _ c.in_ok-medium.ensures.asked.lasts c.in_err-read_prepared.ensures.lasts
@@ -33,76 +27,64 @@ pub returns-clause-unreadable : goal.returns-clause-unreadable
 returns-clause-unreadable g c = rose_after _ _ _ _ c.in_ok-medium.ensures.asked.lasts c.in_ok-read_prepared.ensures.unreadable
 
 pub returns-in_err-medium-clause-told : goal.returns-in_err-medium-clause-told
-returns-in_err-medium-clause-told g c = λ t tell.
-    let p = err_from_is_err_and c.from_residual.result c.from_residual.ensures.1 in
-    let still = ap (λ (f : Files). f c.args.image.now) (c.in_err-medium.ensures.reads.unchanged t) in
-    ends_unopened _ _ _ _ _ _ _ c.from_residual.result _ (p.1 ∙ ap Err p.2) c.in_err-medium.ensures.causes
-    (c.in_err-medium.ensures.told t tell) (c.in_err-medium.ensures.asked.same tell) still
+returns-in_err-medium-clause-told g c =
+    let o = c.in_err-medium.ensures in
+    told_unopened c.args.ecc _ c.args.image.now _ _ _ _ _ c.from_residual.result _ c.from_residual.ensures.1 o.causes o.reads o.asked o.told
 
 pub returns-in_err-prepared-clause-told : goal.returns-in_err-prepared-clause-told
-returns-in_err-prepared-clause-told g c = λ t tell.
-    let p = err_from_is_err_and c.from_residual-in_err-prepared.result c.from_residual-in_err-prepared.ensures.1 in
-    let t1 = subst IsTrue (sym c.in_ok-medium.ensures.reads.tells) t in
-    let still = ap (λ (f : Files). f c.args.image.now) (c.in_ok-medium.ensures.reads.unchanged t) in
-    turned_unprepared _ _ c.in_ok-medium.medium _ _ _ _ _ c.from_residual-in_err-prepared.result p.0 p.1 (subst IsOfWork (sym p.2) c.in_err-prepared.ensures.causes)
-    (c.in_ok-medium.ensures.told t tell) (c.in_ok-medium.ensures.asked.same tell) still (c.in_err-prepared.ensures.told t1)
+returns-in_err-prepared-clause-told g c =
+    let o = c.in_ok-medium.ensures in
+    let p = c.in_err-prepared.ensures in
+    told_unprepared c.args.ecc _ c.args.image.now c.in_ok-medium.medium _ _ _ _ _ _ _ c.from_residual-in_err-prepared.result _ p.works c.from_residual-in_err-prepared.ensures.1
+    p.causes o.reads o.asked o.told p.told
 
 pub returns-in_err-read_prepared-clause-told : goal.returns-in_err-read_prepared-clause-told
-returns-in_err-read_prepared-clause-told g c = λ t tell.
-    let p = err_from_is_err_and c.from_residual-in_err-read_prepared.result c.from_residual-in_err-read_prepared.ensures.1 in
-    let t1 = subst IsTrue (sym c.in_ok-medium.ensures.reads.tells) t in
-    let t2 = subst IsTrue (sym c.in_ok-prepared.ensures.works.tells) t1 in
-    let tell1 = told_before _ _ c.in_err-read_prepared.ensures.lasts tell in
-    let still = ap (λ (f : Files). f c.args.image.now) (c.in_ok-medium.ensures.reads.unchanged t) in
-    let was = c.in_ok-medium.ensures.told t tell1 in
-    turned_left _ _ c.in_ok-medium.medium _ _ _ _ _ _ c.from_residual-in_err-read_prepared.result p.0 p.1 (subst IsOfWork (sym p.2) c.in_err-read_prepared.ensures.causes)
-    was c.in_ok-medium.ensures.asked tell1 still
-    (λ f med. c.in_err-read_prepared.ensures.told.reads f _ t2 tell
-    (found_as _ (g.D.Desk.state c.args.desk.now) _ _ f
-    (λ name is. c.in_ok-prepared.ensures.works.elsewhere t1 name.now (λ e. c.requires.names name is (sym e)) ∙ ap (λ (x : Files). x name.now) (c.in_ok-medium.ensures.reads.unchanged t))
-    was med)
-    (c.in_ok-prepared.ensures.told t1))
+returns-in_err-read_prepared-clause-told g c =
+    let o = c.in_ok-medium.ensures in
+    let p = c.in_ok-prepared.ensures in
+    let r = c.in_err-read_prepared.ensures in
+    told_left _ _ _ _ _ _ _ _ _ c.from_residual-in_err-read_prepared.result _ r.told r.lasts c.from_residual-in_err-read_prepared.ensures.1 r.causes
+    o.reads o.asked o.told p.works p.told c.requires.names
 
 pub returns-clause-told : goal.returns-clause-told
-returns-clause-told g c = λ t tell.
-    let t1 = subst IsTrue (sym c.in_ok-medium.ensures.reads.tells) t in
-    let t2 = subst IsTrue (sym c.in_ok-prepared.ensures.works.tells) t1 in
-    let tell1 = told_before _ _ c.in_ok-read_prepared.ensures.lasts tell in
-    let still = ap (λ (f : Files). f c.args.image.now) (c.in_ok-medium.ensures.reads.unchanged t) in
-    let was = c.in_ok-medium.ensures.told t tell1 in
-    turned_read _ _ c.in_ok-medium.medium _ _ _ _ _ _ c.in_ok-read_prepared.field-0
-    was (c.in_ok-medium.ensures.asked.same tell1) c.in_ok-medium.ensures.asked.asks still
-    (λ f med. c.in_ok-read_prepared.ensures.told.reads f _ t2 tell
-    (found_as _ (g.D.Desk.state c.args.desk.now) _ _ f
-    (λ name is. c.in_ok-prepared.ensures.works.elsewhere t1 name.now (λ e. c.requires.names name is (sym e)) ∙ ap (λ (x : Files). x name.now) (c.in_ok-medium.ensures.reads.unchanged t))
-    was med)
-    (c.in_ok-prepared.ensures.told t1))
+returns-clause-told g c =
+    let o = c.in_ok-medium.ensures in
+    let p = c.in_ok-prepared.ensures in
+    let r = c.in_ok-read_prepared.ensures in
+    told_read _ _ _ _ _ _ _ _ _ _ r.told r.lasts o.reads o.asked o.told p.works p.told c.requires.names
+
+pub returns-in_err-medium-clause-comes_back : goal.returns-in_err-medium-clause-comes_back
+returns-in_err-medium-clause-comes_back g c = λ t tell image file r says given protects has gives. none_back c.from_residual.result _ _ c.from_residual.ensures.1
+
+pub returns-in_err-prepared-clause-comes_back : goal.returns-in_err-prepared-clause-comes_back
+returns-in_err-prepared-clause-comes_back g c = λ t tell image file r says given protects has gives. none_back c.from_residual-in_err-prepared.result _ _ c.from_residual-in_err-prepared.ensures.1
+
+pub returns-in_err-read_prepared-clause-comes_back : goal.returns-in_err-read_prepared-clause-comes_back
+returns-in_err-read_prepared-clause-comes_back g c = λ t tell image file r says given protects has gives. none_back c.from_residual-in_err-read_prepared.result _ _ c.from_residual-in_err-read_prepared.ensures.1
+
+pub returns-clause-comes_back : goal.returns-clause-comes_back
+returns-clause-comes_back g c =
+    back_read _ _ _ _ _ _ _ _ _ _ c.in_ok-read_prepared.ensures.told c.in_ok-medium.ensures.reads c.in_ok-medium.ensures.asked (returns-clause-told g c)
 
 pub returns-in_err-medium-clause-stays : goal.returns-in_err-medium-clause-stays
-returns-in_err-medium-clause-stays g c = λ t. inl (ap (λ (f : Files). f c.args.image.now) (c.in_err-medium.ensures.reads.unchanged t))
+returns-in_err-medium-clause-stays g c = stays_unopened c.args.ecc c.args.image.now _ _ _ _ _ c.in_err-medium.ensures.reads
 
 pub returns-in_err-prepared-clause-stays : goal.returns-in_err-prepared-clause-stays
-returns-in_err-prepared-clause-stays g c = λ t.
-    let t1 = subst IsTrue (sym c.in_ok-medium.ensures.reads.tells) t in
-    let still = ap (λ (f : Files). f c.args.image.now) (c.in_ok-medium.ensures.reads.unchanged t) in
-    spared_unprepared _ c.in_ok-medium.medium _ _ _ _ _ still (c.in_err-prepared.ensures.told t1) (c.in_ok-medium.ensures.opened t) (c.in_ok-medium.ensures.told t)
+returns-in_err-prepared-clause-stays g c =
+    let o = c.in_ok-medium.ensures in
+    let p = c.in_err-prepared.ensures in
+    stays_unprepared c.args.ecc c.args.image.now c.in_ok-medium.medium _ _ _ _ _ _ _ p.works o.reads o.told o.opened p.told
 
 pub returns-in_err-read_prepared-clause-stays : goal.returns-in_err-read_prepared-clause-stays
-returns-in_err-read_prepared-clause-stays g c = λ t.
-    let t1 = subst IsTrue (sym c.in_ok-medium.ensures.reads.tells) t in
-    let t2 = subst IsTrue (sym c.in_ok-prepared.ensures.works.tells) t1 in
-    let still = ap (λ (f : Files). f c.args.image.now) (c.in_ok-medium.ensures.reads.unchanged t) in
-    spared _ c.in_ok-medium.medium _ _ _ _ _ still
-    (c.in_err-read_prepared.ensures.told.stays _ t2 (c.in_ok-prepared.ensures.told t1))
-    (c.in_ok-medium.ensures.opened t)
-    (λ tell. c.in_ok-medium.ensures.told t (told_before _ _ c.in_err-read_prepared.ensures.lasts tell))
+returns-in_err-read_prepared-clause-stays g c =
+    let o = c.in_ok-medium.ensures in
+    let p = c.in_ok-prepared.ensures in
+    let r = c.in_err-read_prepared.ensures in
+    stays_read _ _ _ _ _ _ _ _ _ _ r.told r.lasts o.reads o.told o.opened p.works p.told
 
 pub returns-clause-stays : goal.returns-clause-stays
-returns-clause-stays g c = λ t.
-    let t1 = subst IsTrue (sym c.in_ok-medium.ensures.reads.tells) t in
-    let t2 = subst IsTrue (sym c.in_ok-prepared.ensures.works.tells) t1 in
-    let still = ap (λ (f : Files). f c.args.image.now) (c.in_ok-medium.ensures.reads.unchanged t) in
-    spared _ c.in_ok-medium.medium _ _ _ _ _ still
-    (c.in_ok-read_prepared.ensures.told.stays _ t2 (c.in_ok-prepared.ensures.told t1))
-    (c.in_ok-medium.ensures.opened t)
-    (λ tell. c.in_ok-medium.ensures.told t (told_before _ _ c.in_ok-read_prepared.ensures.lasts tell))
+returns-clause-stays g c =
+    let o = c.in_ok-medium.ensures in
+    let p = c.in_ok-prepared.ensures in
+    let r = c.in_ok-read_prepared.ensures in
+    stays_read _ _ _ _ _ _ _ _ _ _ r.told r.lasts o.reads o.told o.opened p.works p.told

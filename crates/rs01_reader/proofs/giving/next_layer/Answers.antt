@@ -1,6 +1,7 @@
+use Rattle.std.proofs.Common.{refl}
 use Rattle.std.specs.Prelude.{Some}
 use Rattle.rs01_reader.proofs.CountLemmas.{counts-start}
-use Rattle.rs01_reader.proofs.GiveLemmas.{looked-going, looked-leads, picks-none, picks-some, picks-stop, start-picks}
+use Rattle.rs01_reader.proofs.GiveLemmas.{looked-going, looked-leads, lowest-first, picks-none, picks-some, picks-stop, start-picks}
 use Rattle.rs01_reader.proofs.giving.next_layer.Goals as goal
 
 pub read_on-requires : goal.read_on-requires
@@ -12,6 +13,7 @@ returns-in-Some g c = record {
   counts = counts-start c.args.setup.now _ _ (Some c.in-Some.layer) c.args.rack.now.counted;
   picked = start-picks c.args.setup.now c.args.course.now c.next_settled.new.self _ _ c.in-Some.layer c.requires c.in-Some.ensures;
   none = tt;
+  first = λ k waits. (refl, lowest-first c.args.course.now c.next_settled.new.self c.in-Some.layer k c.in-Some.ensures waits);
   halted = tt;
 }
 
