@@ -11,11 +11,15 @@ use Rattle.rs01_top.specs.Outside.{told_by, world}
 use Rattle.rs01_top.specs.Run.{Ends, RunsAlone}
 use Rattle.rs01_top.specs.Work.{Work}
 use Rattle.rs01_top.proofs.Endings as run
-use Rattle.rs01_top.proofs.Endings.{NotOfWords, not_asked}
+use Rattle.rs01_top.proofs.Endings.{Leaves, NotOfWords, not_asked}
 
 -- what the work may leave, whatever the drives are
-abbrev pub MayLeave : Work → DeskState → DeskState → Type 0
-MayLeave work old new = (rack : RackState) → IsTrue old.tells → work.may_stand (told_by old rack) (told_by new rack)
+pub record MayLeave (work : Work) (old new : DeskState) : Type 0 where
+  pub stands : (rack : RackState) → IsTrue old.tells → work.may_stand (told_by old rack) (told_by new rack)
+  pub keeps : IsTrue old.tells → work.keeps old.files new.files
+
+leaves : (work : Work) (old new : DeskState) (rack : RackState) (out out' : SinkState) → MayLeave work old new → Leaves work (world old rack out) (world new rack out')
+leaves work old new rack out out' left = record { stands = λ d. left.stands rack d.0; keeps = left.keeps }
 
 -- whether anything refuses the work, whatever the drives are
 abbrev pub RefusedFor : Work → DeskState → Option Fault → Type 0
@@ -30,7 +34,7 @@ pub done : (work : Work) (name : List ℕ) (old new : DeskState) (out out' : Sin
     → RunsAlone work old new out out' status
 done work name old new out out' line wanted status words range works none did left ends =
     λ rack. run.done work name (world old rack out) (world new rack out') line wanted status words range (not_asked work rack) works
-    (λ d. none rack d.0) (λ d. did rack d.0) (λ d. left rack d.0) ends
+    (λ d. none rack d.0) (λ d. did rack d.0) (leaves work old new rack out out' left) ends
 
 pub refused : (work : Work) (name : List ℕ) (old new : DeskState) (out out' : SinkState) (why : Fault) (status : ℕ)
     → NotOfWords work → status_of why ≡ 3 → WorksOn name old new false false
@@ -42,8 +46,8 @@ pub refused : (work : Work) (name : List ℕ) (old new : DeskState) (out out' : 
 refused work name old new out out' why status words three works first same left ends =
     λ rack. run.refused work name (world old rack out) (world new rack out') why status words three (not_asked work rack) works
     (λ d. first rack d.0)
-    (λ d. record { files = same d.0; views = refl })
-    (λ d. left rack d.0) ends
+    same (λ d. refl)
+    (leaves work old new rack out out' left) ends
 
 pub read_failed : (work : Work) (name : List ℕ) (old new : DeskState) (out out' : SinkState) (status : ℕ)
     → NotOfWords work → WorksOn name old new true false
@@ -52,7 +56,7 @@ pub read_failed : (work : Work) (name : List ℕ) (old new : DeskState) (out out
     → RunsAlone work old new out out' status
 read_failed work name old new out out' status words works left ends =
     λ rack. run.read_failed work name (world old rack out) (world new rack out') status words (not_asked work rack) works
-    (λ d. left rack d.0) ends
+    (leaves work old new rack out out' left) ends
 
 pub write_failed : (work : Work) (name : List ℕ) (old new : DeskState) (out out' : SinkState) (status : ℕ)
     → NotOfWords work → work.only_reads ≡ false → WorksOn name old new false true
@@ -62,7 +66,7 @@ pub write_failed : (work : Work) (name : List ℕ) (old new : DeskState) (out ou
     → RunsAlone work old new out out' status
 write_failed work name old new out out' status words more works none left ends =
     λ rack. run.write_failed work name (world old rack out) (world new rack out') status words more (not_asked work rack) works
-    (λ d. none rack d.0) (λ d. left rack d.0) ends
+    (λ d. none rack d.0) (leaves work old new rack out out' left) ends
 
 pub out_of_memory : (work : Work) (name : List ℕ) (old new : DeskState) (out out' : SinkState) (status : ℕ)
     → NotOfWords work → WorksOn name old new false false
@@ -71,4 +75,4 @@ pub out_of_memory : (work : Work) (name : List ℕ) (old new : DeskState) (out o
     → RunsAlone work old new out out' status
 out_of_memory work name old new out out' status words works left ends =
     λ rack. run.out_of_memory work name (world old rack out) (world new rack out') status words (not_asked work rack) works
-    (λ d. left rack d.0) ends
+    (leaves work old new rack out out' left) ends

@@ -73,7 +73,7 @@ shown_so plan old new out out' shown status works is ends = λ rack.
     (not_of_words plan) (none_or_one shown.whole (status_for shown.whole) refl) (not_asked (work_of_plan plan) rack) works.counts
     (λ d. refl)
     (λ d. told_of (outcome plan) plan (told_by old rack) (told_by new rack) shown (after plan rack old new shown d.0 works (is d.0)) (is d.0))
-    (λ d. after plan rack old new shown d.0 works (is d.0))
+    (record { stands = λ d. after plan rack old new shown d.0 works (is d.0); keeps = works.elsewhere })
     ends
 
 -- a refusal, which no desk that tells its files gives
@@ -84,7 +84,8 @@ not_told : (plan : Plan) (old new : DeskState) (out out' : SinkState) (why : Fau
 not_told plan old new out out' why status three works never ends = λ rack.
     refused_by (work_of_plan plan) (world old rack out) (world new rack out') why status (not_of_words plan) three
     (not_asked (work_of_plan plan) rack) works.counts
-    (λ d. absurd (never d.0)) (λ d. absurd (never d.0)) (λ d. absurd (never d.0)) ends
+    (λ d. absurd (never d.0)) (λ t. absurd (never t)) (λ d. absurd (never d.0))
+    (record { stands = λ d. absurd (never d.0); keeps = works.elsewhere }) ends
 
 stands : (plan : Plan) (old new : DeskState) (reading writing : Bool) (why : DemoRefusal) (rack : RackState)
     → WorksOnTwo image_name ecc_name old new reading writing
@@ -99,7 +100,7 @@ read_stopped : (plan : Plan) (old new : DeskState) (out out' : SinkState) (why :
     → RunsAlone (work_of_plan plan) old new out out' status
 read_stopped plan old new out out' why status works is ends = λ rack.
     read_failed_by (work_of_plan plan) (world old rack out) (world new rack out') status (not_of_words plan) (not_asked (work_of_plan plan) rack) works.counts
-    (λ d. stands plan old new true false why rack works is d.0) ends
+    (record { stands = λ d. stands plan old new true false why rack works is d.0; keeps = works.elsewhere }) ends
 
 write_stopped : (plan : Plan) (old new : DeskState) (out out' : SinkState) (why : DemoRefusal) (status : ℕ)
     → WorksOnTwo image_name ecc_name old new false true
@@ -108,7 +109,7 @@ write_stopped : (plan : Plan) (old new : DeskState) (out out' : SinkState) (why 
     → RunsAlone (work_of_plan plan) old new out out' status
 write_stopped plan old new out out' why status works is ends = λ rack.
     write_failed_by (work_of_plan plan) (world old rack out) (world new rack out') status (not_of_words plan) refl (not_asked (work_of_plan plan) rack) works.counts
-    (λ d. refl) (λ d. stands plan old new false true why rack works is d.0) ends
+    (λ d. refl) (record { stands = λ d. stands plan old new false true why rack works is d.0; keeps = works.elsewhere }) ends
 
 memory_ran_out : (plan : Plan) (old new : DeskState) (out out' : SinkState) (why : DemoRefusal) (status : ℕ)
     → WorksOnTwo image_name ecc_name old new false false
@@ -117,7 +118,7 @@ memory_ran_out : (plan : Plan) (old new : DeskState) (out out' : SinkState) (why
     → RunsAlone (work_of_plan plan) old new out out' status
 memory_ran_out plan old new out out' why status works is ends = λ rack.
     out_of_memory_by (work_of_plan plan) (world old rack out) (world new rack out') status (not_of_words plan) (not_asked (work_of_plan plan) rack) works.counts
-    (λ d. stands plan old new false false why rack works is d.0) ends
+    (record { stands = λ d. stands plan old new false false why rack works is d.0; keeps = works.elsewhere }) ends
 
 -- it wasn't
 not_shown : (plan : Plan) (old new : DeskState) (out out' : SinkState) (why : DemoRefusal) (status : ℕ)

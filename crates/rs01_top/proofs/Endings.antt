@@ -19,7 +19,7 @@ use Rattle.rs01_linear.proofs.LastingLemmas.{same_lasts}
 use Rattle.rs01_rack.specs.Rack.{RackState}
 use Rattle.rs01_top.specs.Outside.{Outside, World, outside_of, world}
 use Rattle.rs01_top.specs.Work.{Answers, AnswersBy, Work, no_work}
-use Rattle.rs01_top.specs.Run.{Begins, Ends, IsKnown, IsRun, IsSettled, NothingRose, RackLasts, HasDriveCause, Tells, ended}
+use Rattle.rs01_top.specs.Run.{Begins, Ends, IsKnown, IsRefusal, IsRun, IsSettled, NothingRose, RackLasts, HasDriveCause, Tells, ended}
 
 -- how the last text of a run was put, which was to end with a status that is not 6 or 7
 record IsTold (line : List ℕ) (wanted : ℕ) (out out' : SinkState) (status : ℕ) : Type 0 where
@@ -107,6 +107,9 @@ some_none x e = cc
 low : (n k : ℕ) → (n ≡ 0) ⊎ (n ≡ 1) → n ≡ k → 2 ≤ k → ⊥
 low n k range e most = grind arith
 
+not_low : (n : ℕ) → (n ≡ 0) ⊎ (n ≡ 1) → IsRefusal n → ⊥
+not_low n range h = grind arith
+
 not_false : IsTrue false → ⊥
 not_false h = cc
 
@@ -133,7 +136,7 @@ record RefusingDrives (work : Work) (old new : RackState) (line : List ℕ) : Ty
   used : IsTrue work.uses_drives
   why : Fault
   number : status_of why ≡ 5
-  drives_are : HasDriveCause why old new
+  drives_are : HasDriveCause work why old new
   line_is : line ≡ fault_line why
 
 -- what became of the drives
@@ -158,18 +161,24 @@ rack_stays rack = record { number = refl; each = λ k before after was is. same_
 pub not_asked : (work : Work) (rack : RackState) → OfRack work rack rack
 not_asked work rack = record { lasts = rack_stays rack; unused = λ h. refl }
 
+-- what the work leaves, by what is known
+pub record Leaves (work : Work) (old new : World) : Type 0 where
+  pub stands : IsKnown work old new → work.may_stand (outside_of old) (outside_of new)
+  pub keeps : IsTrue old.desk.tells → work.keeps old.desk.files new.desk.files
+
 -- the work ended without a fault, and this is its text with its status
 settled : (work : Work) (old new : World) (line : List ℕ) (wanted status : ℕ)
     → IsSettled wanted → OfRack work old.rack new.rack → CountsFaults old.desk new.desk false false
     → (IsKnown work old new → Answers work (outside_of old) (outside_of new) line wanted)
-    → (IsKnown work old new → work.may_stand (outside_of old) (outside_of new))
+    → Leaves work old new
     → ((why : Fault) → work.refusal (outside_of old) ≡ Some why → (status_of why ≡ 2) ⊎ IsKnown work old new → status_of why ≡ wanted)
     → ((wanted ≡ 2) ⊎ (IsKnown work old new × ((wanted ≡ 3) ⊎ (wanted ≡ 5))) → Refusing work (outside_of old) line wanted)
     → (wanted ≡ 5 → RefusingDrives work old.rack new.rack line)
     → ((why : Fault) → work.refusal (outside_of old) ≡ Some why → status_of why ≡ 2 → line ≡ fault_line why)
+    → (IsRefusal wanted → IsTrue old.desk.tells → new.desk.files ≡ old.desk.files)
     → IsTold line wanted old.out new.out status
     → IsRun work old new status
-settled work old new line wanted status w rack works answer left refusing only drives of_words put =
+settled work old new line wanted status w rack works answer left refusing only drives of_words same_files put =
     let rest : NothingRose old.desk new.desk = (works.read_kept refl, works.write_kept refl) in
     record {
       lasts = record {
@@ -185,7 +194,11 @@ settled work old new line wanted status w rack works answer left refusing only d
           (line, subst (Answers work (outside_of old) (outside_of new) line) (sym same) (answer d), put.whole same);
       unput = λ d six noreads nowrites. (line, wanted, answer d, put.begun);
       unput_line = λ why e two six. subst (λ (xs : List ℕ). Begins old.out new.out xs) (of_words why e two) put.begun;
-      stands = left;
+      stands = left.stands;
+      kept = record {
+        files = left.keeps;
+        refused = λ t h. same_files (subst IsRefusal (same_settled status wanted (inr (inr h)) put.range) h) t;
+      };
       range = ⊎_elim (λ e. inl (subst IsSettled (sym e) w)) (λ e. inr (inr e)) put.range;
       only_refused = λ h.
           let same : status ≡ wanted = same_settled status wanted (refusal_settled status _ h) put.range in
@@ -228,7 +241,7 @@ pub done_by : (work : Work) (old new : World) (line : List ℕ) (wanted status :
     → NotOfWords work → (wanted ≡ 0) ⊎ (wanted ≡ 1) → OfRack work old.rack new.rack → CountsFaults old.desk new.desk false false
     → (IsKnown work old new → work.refusal (outside_of old) ≡ None)
     → (IsKnown work old new → work.done (outside_of old) (outside_of new) line wanted)
-    → (IsKnown work old new → work.may_stand (outside_of old) (outside_of new))
+    → Leaves work old new
     → Ends line wanted old.out new.out status
     → IsRun work old new status
 done_by work old new line wanted status words range rack works none did left ends =
@@ -242,6 +255,7 @@ done_by work old new line wanted status words range rack works none did left end
     h))
     (λ five. absurd (low wanted 5 range five (omega arith)))
     (λ why e two. absurd (words (outside_of old) why e two))
+    (λ h t. absurd (not_low wanted range h))
     (told line wanted old.out new.out status (λ e. low wanted 6 range e (omega arith)) (λ e. low wanted 7 range e (omega arith)) ends)
 
 -- on one of them
@@ -249,30 +263,26 @@ pub done : (work : Work) (name : List ℕ) (old new : World) (line : List ℕ) (
     → NotOfWords work → (wanted ≡ 0) ⊎ (wanted ≡ 1) → OfRack work old.rack new.rack → WorksOn name old.desk new.desk false false
     → (IsKnown work old new → work.refusal (outside_of old) ≡ None)
     → (IsKnown work old new → work.done (outside_of old) (outside_of new) line wanted)
-    → (IsKnown work old new → work.may_stand (outside_of old) (outside_of new))
+    → Leaves work old new
     → Ends line wanted old.out new.out status
     → IsRun work old new status
 done work name old new line wanted status words range rack works none did left ends =
     done_by work old new line wanted status words range rack (counts name old.desk new.desk false false works) none did left ends
 
--- files and drives mean the same as before
-pub record SameOutside (old new : Outside) : Type 0 where
-  pub files : new.files ≡ old.files
-  pub views : new.views ≡ old.views
-
 -- files or drives refuse the work
 refused_for : (work : Work) (old new : World) (why : Fault) (status : ℕ)
     → NotOfWords work → (status_of why ≡ 3) ⊎ (status_of why ≡ 5) → OfRack work old.rack new.rack → CountsFaults old.desk new.desk false false
     → (IsKnown work old new → work.refusal (outside_of old) ≡ Some why)
-    → (IsKnown work old new → SameOutside (outside_of old) (outside_of new))
-    → (IsKnown work old new → work.may_stand (outside_of old) (outside_of new))
+    → (IsTrue old.desk.tells → new.desk.files ≡ old.desk.files)
+    → (IsKnown work old new → (outside_of new).views ≡ (outside_of old).views)
+    → Leaves work old new
     → (status_of why ≡ 5 → RefusingDrives work old.rack new.rack (fault_line why))
     → Ends (fault_line why) (status_of why) old.out new.out status
     → IsRun work old new status
-refused_for work old new why status words number rack works first same left drives ends =
+refused_for work old new why status words number rack works first files same left drives ends =
     settled work old new (fault_line why) (status_of why) status (inr (inr (inr number))) rack works
     (λ d. subst (λ (o : Option Fault). AnswersBy o work.done (outside_of old) (outside_of new) (fault_line why) (status_of why)) (sym (first d))
-    (record { files = (same d).files; views = (same d).views; line = refl; number = refl }))
+    (record { files = files d.0; views = same d; line = refl; number = refl }))
     left
     (λ other e known. ⊎_elim (λ two. absurd (words (outside_of old) other e two)) (λ d. ap status_of (some_same other why (sym e ∙ first d))) known)
     (λ h. ⊎_elim
@@ -281,6 +291,7 @@ refused_for work old new why status words number rack works first same left driv
     h)
     drives
     (λ other e two. absurd (words (outside_of old) other e two))
+    (λ h t. files t)
     (told (fault_line why) (status_of why) old.out new.out status
     (λ e. three_or_five (status_of why) 6 number e (omega arith)) (λ e. three_or_five (status_of why) 7 number e (omega arith)) ends)
 
@@ -288,35 +299,38 @@ refused_for work old new why status words number rack works first same left driv
 pub refused_by : (work : Work) (old new : World) (why : Fault) (status : ℕ)
     → NotOfWords work → status_of why ≡ 3 → OfRack work old.rack new.rack → CountsFaults old.desk new.desk false false
     → (IsKnown work old new → work.refusal (outside_of old) ≡ Some why)
-    → (IsKnown work old new → SameOutside (outside_of old) (outside_of new))
-    → (IsKnown work old new → work.may_stand (outside_of old) (outside_of new))
+    → (IsTrue old.desk.tells → new.desk.files ≡ old.desk.files)
+    → (IsKnown work old new → (outside_of new).views ≡ (outside_of old).views)
+    → Leaves work old new
     → Ends (fault_line why) (status_of why) old.out new.out status
     → IsRun work old new status
-refused_by work old new why status words three rack works first same left ends =
-    refused_for work old new why status words (inl three) rack works first same left
+refused_by work old new why status words three rack works first files same left ends =
+    refused_for work old new why status words (inl three) rack works first files same left
     (λ five. absurd (other_than (status_of why) 3 5 three (λ e. omega arith) five)) ends
 
 pub refused : (work : Work) (name : List ℕ) (old new : World) (why : Fault) (status : ℕ)
     → NotOfWords work → status_of why ≡ 3 → OfRack work old.rack new.rack → WorksOn name old.desk new.desk false false
     → (IsKnown work old new → work.refusal (outside_of old) ≡ Some why)
-    → (IsKnown work old new → SameOutside (outside_of old) (outside_of new))
-    → (IsKnown work old new → work.may_stand (outside_of old) (outside_of new))
+    → (IsTrue old.desk.tells → new.desk.files ≡ old.desk.files)
+    → (IsKnown work old new → (outside_of new).views ≡ (outside_of old).views)
+    → Leaves work old new
     → Ends (fault_line why) (status_of why) old.out new.out status
     → IsRun work old new status
-refused work name old new why status words three rack works first same left ends =
-    refused_by work old new why status words three rack (counts name old.desk new.desk false false works) first same left ends
+refused work name old new why status words three rack works first files same left ends =
+    refused_by work old new why status words three rack (counts name old.desk new.desk false false works) first files same left ends
 
 -- the drives refuse it
 pub refused_by_drives : (work : Work) (name : List ℕ) (old new : World) (why : Fault) (status : ℕ)
-    → NotOfWords work → IsTrue work.uses_drives → status_of why ≡ 5 → HasDriveCause why old.rack new.rack
+    → NotOfWords work → IsTrue work.uses_drives → status_of why ≡ 5 → HasDriveCause work why old.rack new.rack
     → OfRack work old.rack new.rack → WorksOn name old.desk new.desk false false
     → (IsKnown work old new → work.refusal (outside_of old) ≡ Some why)
-    → (IsKnown work old new → SameOutside (outside_of old) (outside_of new))
-    → (IsKnown work old new → work.may_stand (outside_of old) (outside_of new))
+    → (IsTrue old.desk.tells → new.desk.files ≡ old.desk.files)
+    → (IsKnown work old new → (outside_of new).views ≡ (outside_of old).views)
+    → Leaves work old new
     → Ends (fault_line why) (status_of why) old.out new.out status
     → IsRun work old new status
-refused_by_drives work name old new why status words used five raised rack works first same left ends =
-    refused_for work old new why status words (inr five) rack (counts name old.desk new.desk false false works) first same left
+refused_by_drives work name old new why status words used five raised rack works first files same left ends =
+    refused_for work old new why status words (inr five) rack (counts name old.desk new.desk false false works) first files same left
     (λ e. record { used = used; why = why; number = five; drives_are = raised; line_is = refl }) ends
 
 -- the words refuse it, and nothing is begun
@@ -327,11 +341,12 @@ not_begun why desk rack out out' status two ends =
     settled (no_work why) (world desk rack out) (world desk rack out') (fault_line why) (status_of why) status
     (inr (inr (inl two))) (not_asked (no_work why) rack) (counts [] desk desk false false (works-reads [] desk desk false (reads-start desk)))
     (λ d. record { files = refl; views = refl; line = refl; number = refl })
-    (λ d. refl)
+    (record { stands = λ d. refl; keeps = λ t. refl })
     (λ other e known. ap status_of (sym (some_same why other e)))
     (λ h. record { why = why; first = refl; number = refl; line_is = refl })
     (λ five. absurd (other_than (status_of why) 2 5 two (λ e. omega arith) five))
     (λ other e two. ap fault_line (some_same why other e))
+    (λ h t. refl)
     (told (fault_line why) (status_of why) out out' status
     (other_than (status_of why) 2 6 two (λ e. omega arith)) (other_than (status_of why) 2 7 two (λ e. omega arith)) ends)
 
@@ -339,7 +354,7 @@ not_begun why desk rack out out' status two ends =
 faulted : (work : Work) (old new : World) (line : List ℕ) (status : ℕ)
     → NotOfWords work → OfRack work old.rack new.rack
     → new.desk.tells ≡ old.desk.tells → old.desk.read_faults ≤ new.desk.read_faults → old.desk.write_faults ≤ new.desk.write_faults
-    → (IsKnown work old new → work.may_stand (outside_of old) (outside_of new))
+    → Leaves work old new
     → (Rose old.desk.read_faults new.desk.read_faults × (line ≡ fault_line fault.ReadFault))
     ⊎ (Rose old.desk.write_faults new.desk.write_faults × (line ≡ fault_line fault.WriteFault))
     → (IsTrue work.only_reads ⊎ (IsKnown work old new × IsSome (work.refusal (outside_of old))) → new.desk.write_faults ≡ old.desk.write_faults)
@@ -350,7 +365,8 @@ faulted work old new line status words rack tells reads writes left cause still 
   answer = λ d h. absurd (unsettled status h put.range);
   unput = λ d six noreads nowrites. absurd (⊎_elim (λ p. noreads p.0) (λ p. nowrites p.0) cause);
   unput_line = λ why e two six. absurd (words (outside_of old) why e two);
-  stands = left;
+  stands = left.stands;
+  kept = record { files = left.keeps; refused = λ t h. absurd (unsettled status (inr (inr h)) put.range) };
   range = inr put.range;
   only_refused = λ h. absurd (unsettled status (refusal_settled status _ h) put.range);
   refused = λ why e known. ⊎_elim (λ four. inr (inr (inr (four, words (outside_of old) why e)))) (⊎_elim (λ s. inr (inl s)) (λ s. inr (inr (inl s)))) put.range;
@@ -374,7 +390,7 @@ faulted work old new line status words rack tells reads writes left cause still 
 
 pub read_failed_by : (work : Work) (old new : World) (status : ℕ)
     → NotOfWords work → OfRack work old.rack new.rack → CountsFaults old.desk new.desk true false
-    → (IsKnown work old new → work.may_stand (outside_of old) (outside_of new))
+    → Leaves work old new
     → Ends (fault_line fault.ReadFault) 4 old.out new.out status
     → IsRun work old new status
 read_failed_by work old new status words rack works left ends =
@@ -384,7 +400,7 @@ read_failed_by work old new status words rack works left ends =
 
 pub read_failed : (work : Work) (name : List ℕ) (old new : World) (status : ℕ)
     → NotOfWords work → OfRack work old.rack new.rack → WorksOn name old.desk new.desk true false
-    → (IsKnown work old new → work.may_stand (outside_of old) (outside_of new))
+    → Leaves work old new
     → Ends (fault_line fault.ReadFault) 4 old.out new.out status
     → IsRun work old new status
 read_failed work name old new status words rack works left ends =
@@ -396,7 +412,7 @@ pub writing_failed : (work : Work) (old new : World) (status : ℕ)
     → new.desk.tells ≡ old.desk.tells → old.desk.read_faults ≤ new.desk.read_faults → old.desk.write_faults ≤ new.desk.write_faults
     → Rose old.desk.write_faults new.desk.write_faults
     → (IsKnown work old new → work.refusal (outside_of old) ≡ None)
-    → (IsKnown work old new → work.may_stand (outside_of old) (outside_of new))
+    → Leaves work old new
     → Ends (fault_line fault.WriteFault) 4 old.out new.out status
     → IsRun work old new status
 writing_failed work old new status words more rack tells reads writes rose none left ends =
@@ -408,7 +424,7 @@ writing_failed work old new status words more rack tells reads writes rose none 
 pub write_failed_by : (work : Work) (old new : World) (status : ℕ)
     → NotOfWords work → work.only_reads ≡ false → OfRack work old.rack new.rack → CountsFaults old.desk new.desk false true
     → (IsKnown work old new → work.refusal (outside_of old) ≡ None)
-    → (IsKnown work old new → work.may_stand (outside_of old) (outside_of new))
+    → Leaves work old new
     → Ends (fault_line fault.WriteFault) 4 old.out new.out status
     → IsRun work old new status
 write_failed_by work old new status words more rack works none left ends =
@@ -417,7 +433,7 @@ write_failed_by work old new status words more rack works none left ends =
 pub write_failed : (work : Work) (name : List ℕ) (old new : World) (status : ℕ)
     → NotOfWords work → work.only_reads ≡ false → OfRack work old.rack new.rack → WorksOn name old.desk new.desk false true
     → (IsKnown work old new → work.refusal (outside_of old) ≡ None)
-    → (IsKnown work old new → work.may_stand (outside_of old) (outside_of new))
+    → Leaves work old new
     → Ends (fault_line fault.WriteFault) 4 old.out new.out status
     → IsRun work old new status
 write_failed work name old new status words more rack works none left ends =
@@ -448,7 +464,7 @@ over_by out out' status (Err OutOfMemory) puts e = record {
 
 run_over : (work : Work) (old new : World) (status : ℕ)
     → NotOfWords work → OfRack work old.rack new.rack → CountsFaults old.desk new.desk false false
-    → (IsKnown work old new → work.may_stand (outside_of old) (outside_of new))
+    → Leaves work old new
     → IsOver old.out new.out status
     → IsRun work old new status
 run_over work old new status words rack works left over =
@@ -465,7 +481,8 @@ run_over work old new status words rack works left over =
       answer = λ d h. absurd (unsettled status h (inr (inr seven)));
       unput = λ d six noreads nowrites. absurd (omega (arith, six, seven));
       unput_line = λ why e two six. absurd (words (outside_of old) why e two);
-      stands = left;
+      stands = left.stands;
+      kept = record { files = left.keeps; refused = λ t h. absurd (unsettled status (inr (inr h)) (inr (inr seven))) };
       range = inr (inr (inr seven));
       only_refused = λ h. absurd (unsettled status (refusal_settled status _ h) (inr (inr seven)));
       refused = λ why e known. inr (inr (inl seven));
@@ -487,7 +504,7 @@ run_over work old new status words rack works left over =
 -- memory ran out
 pub out_of_memory_by : (work : Work) (old new : World) (status : ℕ)
     → NotOfWords work → OfRack work old.rack new.rack → CountsFaults old.desk new.desk false false
-    → (IsKnown work old new → work.may_stand (outside_of old) (outside_of new))
+    → Leaves work old new
     → Ends (fault_line fault.OutOfMemory) 7 old.out new.out status
     → IsRun work old new status
 out_of_memory_by work old new status words rack works left ends =
@@ -495,7 +512,7 @@ out_of_memory_by work old new status words rack works left ends =
 
 pub out_of_memory : (work : Work) (name : List ℕ) (old new : World) (status : ℕ)
     → NotOfWords work → OfRack work old.rack new.rack → WorksOn name old.desk new.desk false false
-    → (IsKnown work old new → work.may_stand (outside_of old) (outside_of new))
+    → Leaves work old new
     → Ends (fault_line fault.OutOfMemory) 7 old.out new.out status
     → IsRun work old new status
 out_of_memory work name old new status words rack works left ends =

@@ -9,7 +9,8 @@ use Rattle.rs01_linear.specs.Lasting as lasting
 use Rattle.rs01_linear.specs.Medium.{Found}
 use Rattle.rs01_linear.specs.Course.{Manner}
 use Rattle.rs01_linear.specs.Outcome.{IsLeftAt, IsReadInto, Reads, RefusesBy}
-use Rattle.rs01_linear.specs.Refusal.{TellsFaults, is_read_fault, is_write_fault}
+use Rattle.rs01_linear.specs.Refusal.{LeavesAll, RefusesSizeAlone, TellsFaults, is_read_fault, is_write_fault}
+use Rattle.rs01_linear.specs.Spared.{StaysGood}
 use Rattle.rs01_linear.specs.declared.refusal.ReadRefusal.{ReadRefusal}
 use Rattle.rs01_report.specs.declared.reports.ReadReport.{ReadReport}
 use Rattle.rs01_report.specs.Faults.{fault_line, status_of}
@@ -19,8 +20,8 @@ use Rattle.rs01_top.specs.Outside.{World}
 use Rattle.rs01_top.specs.Read.{linear_reading, read_status, read_work}
 use Rattle.rs01_top.specs.Run.{Ends, IsRun}
 use Rattle.rs01_top.proofs.Endings.{rack_lasts}
-use Rattle.rs01_top.proofs.MediumFaults.{file_of}
-use Rattle.rs01_top.proofs.Readings.{Fits, Told, not_read, read, worked}
+use Rattle.rs01_top.proofs.MediumFaults.{file_of, sized_alone}
+use Rattle.rs01_top.proofs.Readings.{Fits, Told, good_by, not_read, read, worked}
 
 -- what was left and told, and where it was left
 abbrev IsRead : Manner → List ℕ → World → World → ReadReport → Found → Type 0
@@ -58,24 +59,26 @@ told_as image name manner old new result is d =
     (file_of old.desk.files name) (is d.0 (d.1 refl))
 
 pub read_by : (image : List ℕ) (name : Option (Bor (List ℕ))) (jump tries : ℕ) (old new : World) (report : ReadReport) (status : ℕ)
-    → WorksOn image old.desk new.desk false false → lasting.RackLasts old.rack new.rack → ToldBy image name (record { jump = jump; tries = tries }) old new (Ok report)
+    → WorksOn image old.desk new.desk false false → StaysGood old.desk new.desk name image old.rack new.rack
+    → lasting.RackLasts old.rack new.rack → ToldBy image name (record { jump = jump; tries = tries }) old new (Ok report)
     → Ends (read_lines report image) (read_status report) old.out new.out status
     → IsRun (read_work image (option_map (λ (n : Bor (List ℕ)). n.now) name) jump tries) old new status
-read_by image name jump tries old new report status works lasts is ends =
+read_by image name jump tries old new report status works stays lasts is ends =
     let manner : Manner = record { jump = jump; tries = tries } in
     let ecc = option_map (λ (n : Bor (List ℕ)). n.now) name in
     read (linear_reading image ecc manner) (IsRead manner image old new) (IsLeft manner image old new) old new report status
-    (fits_linear image ecc manner old new works.elsewhere lasts) (worked image old new (Ok report) works) (rack_lasts old.rack new.rack lasts)
+    (fits_linear image ecc manner old new works.elsewhere lasts) (worked (linear_reading image ecc manner) old new (Ok report) works (good_by (linear_reading image ecc manner) name old new refl stays) tt tt) (rack_lasts old.rack new.rack lasts)
     (told_as image name manner old new (Ok report) is) ends
 
 pub not_read_by : (image : List ℕ) (name : Option (Bor (List ℕ))) (jump tries : ℕ) (old new : World) (why : ReadRefusal) (status : ℕ)
     → WorksOn image old.desk new.desk (is_read_fault {T = ReadReport} (Err why)) (is_write_fault {T = ReadReport} (Err why))
-    → lasting.RackLasts old.rack new.rack → RefusesBy {T = ReadReport} (Err why) old.rack new.rack → TellsFaults why → ToldBy image name (record { jump = jump; tries = tries }) old new (Err why)
+    → StaysGood old.desk new.desk name image old.rack new.rack → LeavesAll old.desk new.desk why
+    → lasting.RackLasts old.rack new.rack → RefusesBy {T = ReadReport} (Err why) old.rack new.rack → TellsFaults why → RefusesSizeAlone name why → ToldBy image name (record { jump = jump; tries = tries }) old new (Err why)
     → Ends (fault_line (read_fault why)) (status_of (read_fault why)) old.out new.out status
     → IsRun (read_work image (option_map (λ (n : Bor (List ℕ)). n.now) name) jump tries) old new status
-not_read_by image name jump tries old new why status works lasts by cause is ends =
+not_read_by image name jump tries old new why status works stays untouched lasts by cause alone is ends =
     let manner : Manner = record { jump = jump; tries = tries } in
     let ecc = option_map (λ (n : Bor (List ℕ)). n.now) name in
     not_read (linear_reading image ecc manner) (IsRead manner image old new) (IsLeft manner image old new) old new why status
-    (fits_linear image ecc manner old new works.elsewhere lasts) (worked image old new (Err why) works) (rack_lasts old.rack new.rack lasts) by cause
+    (fits_linear image ecc manner old new works.elsewhere lasts) (worked (linear_reading image ecc manner) old new (Err why) works (good_by (linear_reading image ecc manner) name old new refl stays) untouched (sized_alone name why alone)) (rack_lasts old.rack new.rack lasts) by cause
     (told_as image name manner old new (Err why) is) ends

@@ -1,12 +1,13 @@
 -- What is known of the refusals of a medium, and of the file that it may be given.
-use Rattle.std.proofs.Common.{◌≡◌, ℕ, List, refl, ap, ◌∙◌, arith, Bor}
-use Rattle.std.specs.Prelude.{IsOkAnd, Option, Some, None, Result, Ok, Err}
+use Rattle.std.proofs.Common.{◌≡◌, ℕ, List, refl, ap, ◌∙◌, arith, subst, Bor}
+use Rattle.std.specs.Prelude.{IsOkAnd, IsTrue, Option, Some, None, Result, Ok, Err, is_none}
 use Rattle.std.specs.Option.{option_map}
 use Rattle.rs01_outside.specs.Files.{Files}
 use Rattle.rs01_rack.specs.declared.refusal.RackRefusal.TheVariants as rack
 use Rattle.rs01_ecchead.specs.declared.opened.EccRefusal.{EccRefusal}
 use Rattle.rs01_ecchead.specs.declared.opened.EccRefusal.TheVariants as ecc
 use Rattle.rs01_linear.specs.Medium.{Found}
+use Rattle.rs01_linear.specs.Refusal.{RefusesSizeAlone}
 use Rattle.rs01_linear.specs.declared.refusal.ReadRefusal.{ReadRefusal}
 use Rattle.rs01_linear.specs.declared.refusal.ReadRefusal.TheVariants.{DriveSize, Ecc, OutOfMemory, Rack, ReadFault, WriteFault}
 use Rattle.rs01_report.specs.declared.faults.Fault.{Fault}
@@ -46,3 +47,14 @@ file_of files (Some n) = refl
 pub not_refused : (P : Found → Type 0) (r : Result Found ReadRefusal) → IsOkAnd r P → fault_in read_fault r ≡ None
 not_refused P (Ok medium) p = refl
 not_refused P (Err why) p = absurd p
+
+none_named : (name : Option (Bor (List ℕ))) → name ≡ None → IsTrue (is_none (option_map (λ (n : Bor (List ℕ)). n.now) name))
+none_named None e = refl
+none_named (Some n) e = cc
+
+-- a number of sectors is refused only where no file is named
+abbrev pub SizedAlone : Option (List ℕ) → ReadRefusal → Type 0
+SizedAlone name why = (n : ℕ) → why ≡ DriveSize n → IsTrue (is_none name)
+
+pub sized_alone : (name : Option (Bor (List ℕ))) (why : ReadRefusal) → RefusesSizeAlone name why → SizedAlone (option_map (λ (n : Bor (List ℕ)). n.now) name) why
+sized_alone name why alone n is = none_named name (subst (λ (w : ReadRefusal). RefusesSizeAlone name w) is alone)

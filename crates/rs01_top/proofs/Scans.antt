@@ -10,7 +10,7 @@ use Rattle.rs01_rack.specs.declared.refusal.RackRefusal.TheVariants as rack
 use Rattle.rs01_ecchead.specs.declared.opened.EccRefusal.{EccRefusal}
 use Rattle.rs01_ecchead.specs.declared.opened.EccRefusal.TheVariants as ecc
 use Rattle.rs01_linear.specs.Medium.{Found}
-use Rattle.rs01_linear.specs.Refusal.{IsOfMedium, IsOfReading, is_read_fault}
+use Rattle.rs01_linear.specs.Refusal.{IsOfMedium, IsOfReading, RefusesSizeAlone, is_read_fault}
 use Rattle.rs01_linear.specs.declared.refusal.ReadRefusal.{ReadRefusal}
 use Rattle.rs01_linear.specs.declared.refusal.ReadRefusal.TheVariants.{DriveSize, Ecc, OutOfMemory, Rack, ReadFault, WriteFault}
 use Rattle.rs01_report.specs.declared.reports.ScanReport.{ScanReport}
@@ -19,12 +19,12 @@ use Rattle.rs01_report.specs.Texts.{scan_lines}
 use Rattle.rs01_verify.specs.Scan.{BreaksOff, IsScanOf, IsScanned, RefusesScan, Scans}
 use Rattle.rs01_top.specs.Faults.{ecc_fault, read_fault}
 use Rattle.rs01_top.specs.Outside.{Outside, World, outside_of}
-use Rattle.rs01_top.specs.Scan.{HasScanned, MayStandAfterScan, medium_in, scan_work, scanned_status}
+use Rattle.rs01_top.specs.Scan.{HasScanned, medium_in, scan_work, scanned_status}
 use Rattle.rs01_top.specs.Work.{fault_in}
 use Rattle.rs01_top.specs.Run.{Ends, IsKnown, IsRun, HasDriveCause}
-use Rattle.rs01_top.proofs.Endings.{NotOfWords, SameOutside, done, out_of_memory, read_failed, refused, refused_by_drives, was_asked}
+use Rattle.rs01_top.proofs.Endings.{Leaves, NotOfWords, done, out_of_memory, read_failed, refused, refused_by_drives, was_asked}
 use Rattle.rs01_top.proofs.HeadFaults.{head_is}
-use Rattle.rs01_top.proofs.MediumFaults.{file_of, not_refused, of_err}
+use Rattle.rs01_top.proofs.MediumFaults.{SizedAlone, file_of, not_refused, of_err, sized_alone}
 use Rattle.rs01_top.proofs.Verifies.{none_or_one}
 
 scanned_range : (report : ScanReport) → (scanned_status report ≡ 0) ⊎ (scanned_status report ≡ 1)
@@ -59,7 +59,10 @@ scanned name old new report status reads scans answer ends =
     (not_of_words name) (scanned_range report) (was_asked (scan_work name) old.rack new.rack refl scans.lasts) (works-reads [] old.desk new.desk false reads)
     (λ d. not_refused _ medium (answer d.0 (d.1 refl)))
     (λ d. told_of medium (outside_of old) (outside_of new) report (reads.unchanged d.0) (answer d.0 (d.1 refl)))
-    (λ d. record { files = reads.unchanged d.0; views = all_asked medium (views_of old.rack) (views_of new.rack) report (answer d.0 (d.1 refl)) })
+    (record {
+      stands = λ d. record { files = reads.unchanged d.0; views = all_asked medium (views_of old.rack) (views_of new.rack) report (answer d.0 (d.1 refl)) };
+      keeps = reads.unchanged;
+    })
     ends
 
 -- what is known of a scan that was refused or broken off
@@ -67,19 +70,16 @@ abbrev pub Refused : Option (List ℕ) → World → World → ReadRefusal → T
 Refused name old new why = IsKnown (scan_work name) old new → RefusesScan (medium_in name (outside_of old)) (views_of old.rack) (views_of new.rack) why
 
 stands : (name : Option (List ℕ)) (old new : World) (why : ReadRefusal) → (IsTrue old.desk.tells → new.desk.files ≡ old.desk.files)
-    → Refused name old new why → IsKnown (scan_work name) old new → MayStandAfterScan name (outside_of old) (outside_of new)
-stands name old new why files is d = record { files = files d.0; views = (is d).left }
+    → Refused name old new why → Leaves (scan_work name) old new
+stands name old new why files is = record { stands = λ d. record { files = files d.0; views = (is d).left }; keeps = files }
 
 first_of : (name : Option (List ℕ)) (old new : World) (why : ReadRefusal) → IsOfMedium why
     → Refused name old new why → IsKnown (scan_work name) old new → (scan_work name).refusal (outside_of old) ≡ Some (read_fault why)
 first_of name old new why of is d = ap (λ (r : Result Found ReadRefusal). fault_in read_fault r) ((is d).first of)
 
-unchanged : (name : Option (List ℕ)) (old new : World) (why : ReadRefusal) → IsOfMedium why → (IsTrue old.desk.tells → new.desk.files ≡ old.desk.files)
-    → Refused name old new why → IsKnown (scan_work name) old new → SameOutside (outside_of old) (outside_of new)
-unchanged name old new why of files is d = record {
-  files = files d.0;
-  views = subst (λ (r : Result Found ReadRefusal). BreaksOff r (views_of old.rack) (views_of new.rack)) ((is d).first of) (is d).left;
-}
+unasked : (name : Option (List ℕ)) (old new : World) (why : ReadRefusal) → IsOfMedium why
+    → Refused name old new why → IsKnown (scan_work name) old new → views_of new.rack ≡ views_of old.rack
+unasked name old new why of is d = subst (λ (r : Result Found ReadRefusal). BreaksOff r (views_of old.rack) (views_of new.rack)) ((is d).first of) (is d).left
 
 -- the file is refused
 of_file : (name : Option (List ℕ)) (old new : World) (why : EccRefusal) (status : ℕ)
@@ -90,11 +90,11 @@ of_file : (name : Option (List ℕ)) (old new : World) (why : EccRefusal) (statu
 of_file name old new why status three reads scans is ends =
     refused (scan_work name) [] old new (ecc_fault why) status (not_of_words name) three
     (was_asked (scan_work name) old.rack new.rack refl scans.lasts) (works-reads [] old.desk new.desk false reads)
-    (first_of name old new (Ecc why) tt is) (unchanged name old new (Ecc why) tt reads.unchanged is) (stands name old new (Ecc why) reads.unchanged is) ends
+    (first_of name old new (Ecc why) tt is) reads.unchanged (unasked name old new (Ecc why) tt is) (stands name old new (Ecc why) reads.unchanged is) ends
 
 -- the drives are refused
 of_drives : (name : Option (List ℕ)) (old new : World) (why : ReadRefusal) (status : ℕ)
-    → IsOfMedium why → status_of (read_fault why) ≡ 5 → HasDriveCause (read_fault why) old.rack new.rack
+    → IsOfMedium why → status_of (read_fault why) ≡ 5 → HasDriveCause (scan_work name) (read_fault why) old.rack new.rack
     → OnlyReads old.desk new.desk false → Scans (Err why) old.rack new.rack
     → Refused name old new why
     → Ends (fault_line (read_fault why)) (status_of (read_fault why)) old.out new.out status
@@ -102,30 +102,30 @@ of_drives : (name : Option (List ℕ)) (old new : World) (why : ReadRefusal) (st
 of_drives name old new why status of five raised reads scans is ends =
     refused_by_drives (scan_work name) [] old new (read_fault why) status (not_of_words name) refl five raised
     (was_asked (scan_work name) old.rack new.rack refl scans.lasts) (works-reads [] old.desk new.desk false reads)
-    (first_of name old new why of is) (unchanged name old new why of reads.unchanged is) (stands name old new why reads.unchanged is) ends
+    (first_of name old new why of is) reads.unchanged (unasked name old new why of is) (stands name old new why reads.unchanged is) ends
 
 not_scanned : (name : Option (List ℕ)) (old new : World) (why : ReadRefusal) (status : ℕ)
-    → OnlyReads old.desk new.desk (is_read_fault {T = ScanReport} (Err why)) → Scans (Err why) old.rack new.rack → IsOfReading why
+    → OnlyReads old.desk new.desk (is_read_fault {T = ScanReport} (Err why)) → Scans (Err why) old.rack new.rack → IsOfReading why → SizedAlone name why
     → Refused name old new why
     → Ends (fault_line (read_fault why)) (status_of (read_fault why)) old.out new.out status
     → IsRun (scan_work name) old new status
-not_scanned name old new (Ecc ecc.NoFile) status reads scans cause is ends = of_file name old new ecc.NoFile status refl reads scans is ends
-not_scanned name old new (Ecc (ecc.Head why)) status reads scans cause is ends = of_file name old new (ecc.Head why) status (head_is why) reads scans is ends
-not_scanned name old new (Ecc (ecc.Size have want)) status reads scans cause is ends = of_file name old new (ecc.Size have want) status refl reads scans is ends
-not_scanned name old new (Ecc (ecc.Body have want)) status reads scans cause is ends = of_file name old new (ecc.Body have want) status refl reads scans is ends
-not_scanned name old new (Ecc ecc.ReadFault) status reads scans cause is ends = absurd cause.0
-not_scanned name old new (Ecc ecc.OutOfMemory) status reads scans cause is ends = absurd cause.0
-not_scanned name old new (Rack rack.NoDrive) status reads scans cause is ends = of_drives name old new (Rack rack.NoDrive) status tt refl scans.cause.0 reads scans is ends
-not_scanned name old new (Rack (rack.Failed drive)) status reads scans cause is ends =
+not_scanned name old new (Ecc ecc.NoFile) status reads scans cause alone is ends = of_file name old new ecc.NoFile status refl reads scans is ends
+not_scanned name old new (Ecc (ecc.Head why)) status reads scans cause alone is ends = of_file name old new (ecc.Head why) status (head_is why) reads scans is ends
+not_scanned name old new (Ecc (ecc.Size have want)) status reads scans cause alone is ends = of_file name old new (ecc.Size have want) status refl reads scans is ends
+not_scanned name old new (Ecc (ecc.Body have want)) status reads scans cause alone is ends = of_file name old new (ecc.Body have want) status refl reads scans is ends
+not_scanned name old new (Ecc ecc.ReadFault) status reads scans cause alone is ends = absurd cause.0
+not_scanned name old new (Ecc ecc.OutOfMemory) status reads scans cause alone is ends = absurd cause.0
+not_scanned name old new (Rack rack.NoDrive) status reads scans cause alone is ends = of_drives name old new (Rack rack.NoDrive) status tt refl scans.cause.0 reads scans is ends
+not_scanned name old new (Rack (rack.Failed drive)) status reads scans cause alone is ends =
     of_drives name old new (Rack (rack.Failed drive)) status tt refl scans.cause reads scans is ends
-not_scanned name old new (Rack (rack.Differ first other)) status reads scans cause is ends =
+not_scanned name old new (Rack (rack.Differ first other)) status reads scans cause alone is ends =
     of_drives name old new (Rack (rack.Differ first other)) status tt refl scans.cause.0 reads scans is ends
-not_scanned name old new (DriveSize n) status reads scans cause is ends = of_drives name old new (DriveSize n) status tt refl scans.cause reads scans is ends
-not_scanned name old new ReadFault status reads scans cause is ends =
+not_scanned name old new (DriveSize n) status reads scans cause alone is ends = of_drives name old new (DriveSize n) status tt refl (alone n refl, scans.cause.0, scans.cause.1) reads scans is ends
+not_scanned name old new ReadFault status reads scans cause alone is ends =
     read_failed (scan_work name) [] old new status (not_of_words name) (was_asked (scan_work name) old.rack new.rack refl scans.lasts)
     (works-reads [] old.desk new.desk true reads) (stands name old new ReadFault reads.unchanged is) ends
-not_scanned name old new WriteFault status reads scans cause is ends = absurd cause
-not_scanned name old new OutOfMemory status reads scans cause is ends =
+not_scanned name old new WriteFault status reads scans cause alone is ends = absurd cause
+not_scanned name old new OutOfMemory status reads scans cause alone is ends =
     out_of_memory (scan_work name) [] old new status (not_of_words name) (was_asked (scan_work name) old.rack new.rack refl scans.lasts)
     (works-reads [] old.desk new.desk false reads) (stands name old new OutOfMemory reads.unchanged is) ends
 
@@ -143,13 +143,13 @@ scanned_by name old new report status reads scans answer ends =
     ends
 
 pub not_scanned_by : (name : Option (Bor (List ℕ))) (old new : World) (why : ReadRefusal) (status : ℕ)
-    → OnlyReads old.desk new.desk (is_read_fault {T = ScanReport} (Err why)) → Scans (Err why) old.rack new.rack → IsOfReading why
+    → OnlyReads old.desk new.desk (is_read_fault {T = ScanReport} (Err why)) → Scans (Err why) old.rack new.rack → IsOfReading why → RefusesSizeAlone name why
     → (IsTrue old.desk.tells → AllTell new.rack
     → IsScanOf (option_map (λ (n : Bor (List ℕ)). old.desk.files n.now) name) (views_of old.rack) (views_of new.rack) (Err why))
     → Ends (fault_line (read_fault why)) (status_of (read_fault why)) old.out new.out status
     → IsRun (scan_work (option_map (λ (n : Bor (List ℕ)). n.now) name)) old new status
-not_scanned_by name old new why status reads scans cause answer ends =
-    not_scanned (option_map (λ (n : Bor (List ℕ)). n.now) name) old new why status reads scans cause
+not_scanned_by name old new why status reads scans cause alone answer ends =
+    not_scanned (option_map (λ (n : Bor (List ℕ)). n.now) name) old new why status reads scans cause (sized_alone name why alone)
     (λ d. subst (λ (file : Option (Option (List ℕ))). IsScanOf file (views_of old.rack) (views_of new.rack) (Err why))
     (file_of old.desk.files name) (answer d.0 (d.1 refl)))
     ends

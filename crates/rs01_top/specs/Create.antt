@@ -30,6 +30,8 @@ create_work image ecc r = record {
   refusal = λ found. fault_if create_fault (refusal_of (found.files image));
   done = IsCreated image ecc r;
   may_stand = MayStandAfterCreate image ecc r;
+  keeps = SameElsewhere ecc;
   only_reads = false;
   uses_drives = false;
+  sized_by_drives = false;
 }

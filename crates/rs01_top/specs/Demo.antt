@@ -31,8 +31,10 @@ work_of_plan plan = record {
   refusal = λ found. None;
   done = λ old new put status. IsOkAnd (outcome plan) (HasDemonstrated plan old new put status);
   may_stand = MayStandAfterDemo plan;
+  keeps = SameButTwo image_name ecc_name;
   only_reads = false;
   uses_drives = false;
+  sized_by_drives = false;
 }
 
 abbrev pub demo_work : (number sectors parity lost : ℕ) → Work

@@ -33,6 +33,8 @@ fix_work image ecc cut = record {
   refusal = λ found. fault_in fix_fault (answer_to image ecc cut found);
   done = λ old new put status. IsOkAnd (answer_to image ecc cut old) (IsFixed image old new put status);
   may_stand = MayStandAfterFix image ecc cut;
+  keeps = SameElsewhere image;
   only_reads = false;
   uses_drives = false;
+  sized_by_drives = false;
 }

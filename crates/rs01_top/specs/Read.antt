@@ -1,15 +1,17 @@
 -- The work of `read`, in whatever order it asks for the sectors, and that of reading in rising order.
-use Rattle.std.specs.Prelude.{ℕ, ◌≡◌, ◌≤◌, ◌+◌, ◌-◌, ◌^◌, ◌==◌, ◌⊎◌, false, true, if◌then◌else◌, List, length, IsOkAnd, Option, Some, Result, Ok, Err, min}
-use Rattle.rs01_ecchead.specs.Erased.{image_len}
+use Rattle.std.specs.Prelude.{ℕ, ◌≡◌, ◌≤◌, ◌+◌, ◌-◌, ◌^◌, ◌==◌, ◌&&◌, ◌⊎◌, false, true, if◌then◌else◌, List, length, IsOkAnd, IsSomeAnd, Option, Some, Result, Ok, Err, is_none, min}
+use Rattle.std.specs.Option.{option_map}
+use Rattle.rs01_ecchead.specs.Erased.{Known, image_len}
 use Rattle.rs01_linear.specs.Course.{Course, Manner, read_to, whole_reading}
 use Rattle.rs01_linear.specs.Lasting.{asks_in}
 use Rattle.rs01_linear.specs.Left.{image_left, marked}
 use Rattle.rs01_linear.specs.Outcome.{IsOnTheWay}
-use Rattle.rs01_linear.specs.Medium.{Found}
+use Rattle.rs01_linear.specs.Medium.{Found, IsKnownBy}
 use Rattle.rs01_linear.specs.Report.{report_of}
+use Rattle.rs01_linear.specs.Spared.{Spares}
 use Rattle.rs01_linear.specs.declared.refusal.ReadRefusal.{ReadRefusal}
 use Rattle.rs01_outside.specs.DriveView.{DriveView}
-use Rattle.rs01_outside.specs.Files.{Becomes, SameElsewhere, bytes_of}
+use Rattle.rs01_outside.specs.Files.{Becomes, Files, SameElsewhere, bytes_of}
 use Rattle.rs01_rack.specs.Rack.{capped}
 use Rattle.rs01_report.specs.Texts.{read_lines}
 use Rattle.rs01_report.specs.declared.reports.ReadReport.{ReadReport}
@@ -18,9 +20,9 @@ use Rattle.rs01_top.specs.Outside.{Outside}
 use Rattle.rs01_top.specs.Scan.{medium_in}
 use Rattle.rs01_top.specs.Work.{Work, fault_in}
 
--- 0 exactly where no sector is lost: neither good nor restored at the end
+-- 0 exactly where no sector is lost, neither good nor restored at the end, and no layer is strange
 abbrev pub read_status : ReadReport → ℕ
-read_status report = if length report.lost == 0 then 0 else 1
+read_status report = if (length report.lost == 0) && (length report.strange == 0) then 0 else 1
 
 -- what is asked for: into which image file and by which error correction file, if any; what the whole reading of a medium
 -- that was found leaves, puts and answers; and what else may stand, where it was begun
@@ -63,13 +65,27 @@ pub record MayStandAfterRead (reading : Reading) (old new : Outside) : Type 0 wh
   pub elsewhere : SameElsewhere reading.image old.files new.files
   pub left : ReadsSoFar reading old new (medium_in reading.ecc old)
 
+-- the image file isn't shorter, and its good sectors and the bytes past the image are the same, by what the error
+-- correction file tells of them, and without one by some number of sectors
+pub record HasGood (reading : Reading) (old new : Files) : Type 0 where
+  pub known : Known
+  pub known_is : IsKnownBy (option_map old reading.ecc) known
+  pub spares : IsSomeAnd (new reading.image) (Spares known (bytes_of old reading.image))
+
+-- whatever the drives give: no other file has changed, and the image file is as before, or has what was good in it
+pub record KeepsGood (reading : Reading) (old new : Files) : Type 0 where
+  pub elsewhere : SameElsewhere reading.image old new
+  pub image : (new reading.image ≡ old reading.image) ⊎ HasGood reading old new
+
 abbrev pub work_of_reading : Reading → Work
 work_of_reading reading = record {
   refusal = λ found. fault_in read_fault (medium_in reading.ecc found);
   done = λ old new put status. IsOkAnd (medium_in reading.ecc old) (λ medium. reading.done medium old new put status);
   may_stand = MayStandAfterRead reading;
+  keeps = KeepsGood reading;
   only_reads = false;
   uses_drives = true;
+  sized_by_drives = is_none reading.ecc;
 }
 
 -- in rising order, in this manner

@@ -94,19 +94,19 @@ IsRefusedAs work old new status = (why : Fault) → work.refusal (outside_of old
 
 -- drives are refused for what they gave when each was asked for its number: there are none, or one failed, whose count
 -- of faults rose, or two differ, or they agree on a number that no medium without a file can have
-abbrev pub HasDriveCause : Fault → RackState → RackState → Type 0
-HasDriveCause fault.NoDrive old new = GivesNumber (Err racks.NoDrive) old new
-HasDriveCause (fault.Failed drive) old new = GivesNumber (Err (racks.Failed drive)) old new × AtDrive old.drives new.drives drive FaultsRose
-HasDriveCause (fault.Differ first other) old new = GivesNumber (Err (racks.Differ first other)) old new
-HasDriveCause (fault.DriveSize n) old new = GivesNumber (Ok n) old new × IsUnfit n
-HasDriveCause why old new = ⊥
+abbrev pub HasDriveCause : Work → Fault → RackState → RackState → Type 0
+HasDriveCause work fault.NoDrive old new = GivesNumber (Err racks.NoDrive) old new
+HasDriveCause work (fault.Failed drive) old new = GivesNumber (Err (racks.Failed drive)) old new × AtDrive old.drives new.drives drive FaultsRose
+HasDriveCause work (fault.Differ first other) old new = GivesNumber (Err (racks.Differ first other)) old new
+HasDriveCause work (fault.DriveSize n) old new = IsTrue work.sized_by_drives × GivesNumber (Ok n) old new × IsUnfit n
+HasDriveCause work why old new = ⊥
 
 -- drives that the work uses are refused, for this cause
 pub record RefusesDrives (work : Work) (old new : World) : Type 0 where
   pub used : IsTrue work.uses_drives
   pub why : Fault
   pub number : status_of why ≡ 5
-  pub drives_are : HasDriveCause why old.rack new.rack
+  pub drives_are : HasDriveCause work why old.rack new.rack
   pub line : Tells old.out new.out (fault_line why)
 
 -- the causes of the other statuses, by the counts of faults, with the line that was put
@@ -134,6 +134,16 @@ pub record IsQuiet (work : Work) (old new : World) (status : ℕ) : Type 0 where
   pub output : status ≡ 4 → new.out.faults ≡ old.out.faults
   pub settled : IsSettled status → NothingRose old.desk new.desk × (new.out.faults ≡ old.out.faults)
 
+-- a status of a run that is refused for its words, its files or its drives
+abbrev pub IsRefusal : ℕ → Type 0
+IsRefusal status = (status ≡ 2) ⊎ (status ≡ 3) ⊎ (status ≡ 5)
+
+-- wherever the desk tells, whatever the drives are: what the work keeps has stayed, and a run that is refused has changed
+-- no file
+pub record IsKept (work : Work) (old new : World) (status : ℕ) : Type 0 where
+  pub files : IsTrue old.desk.tells → work.keeps old.desk.files new.desk.files
+  pub refused : IsTrue old.desk.tells → IsRefusal status → new.desk.files ≡ old.desk.files
+
 -- all of it
 pub record IsRun (work : Work) (old new : World) (status : ℕ) : Type 0 where
   pub lasts : Lasts old new
@@ -141,6 +151,7 @@ pub record IsRun (work : Work) (old new : World) (status : ℕ) : Type 0 where
   pub unput : IsUnput work old new status
   pub unput_line : IsUnputLine work old new status
   pub stands : Stands work old new
+  pub kept : IsKept work old new status
   pub range : IsStatus status
   pub only_refused : IsOnlyRefused work old new status
   pub refused : IsRefusedAs work old new status

@@ -1,5 +1,5 @@
 -- The work of `scan`.
-use Rattle.std.specs.Prelude.{ℕ, ◌≡◌, ◌==◌, ◌&&◌, true, if◌then◌else◌, List, length, IsOkAnd, Option, Result}
+use Rattle.std.specs.Prelude.{ℕ, ◌≡◌, ◌==◌, ◌&&◌, true, if◌then◌else◌, List, length, IsOkAnd, Option, Result, is_none}
 use Rattle.std.specs.Option.{option_map}
 use Rattle.rs01_linear.specs.Medium.{Found, found}
 use Rattle.rs01_linear.specs.declared.refusal.ReadRefusal.{ReadRefusal}
@@ -35,6 +35,8 @@ scan_work ecc = record {
   refusal = λ found. fault_in read_fault (medium_in ecc found);
   done = λ old new put status. IsOkAnd (medium_in ecc old) (HasScanned old new put status);
   may_stand = MayStandAfterScan ecc;
+  keeps = λ old new. new ≡ old;
   only_reads = true;
   uses_drives = true;
+  sized_by_drives = is_none ecc;
 }

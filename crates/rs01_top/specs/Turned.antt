@@ -10,7 +10,8 @@ use Rattle.rs01_report.specs.declared.reports.ReadReport.{ReadReport}
 use Rattle.rs01_linear.specs.Lasting.{RackLasts}
 use Rattle.rs01_linear.specs.Medium.{Found}
 use Rattle.rs01_linear.specs.Outcome.{RefusesBy}
-use Rattle.rs01_linear.specs.Refusal.{TellsFaults, WorksBy}
+use Rattle.rs01_linear.specs.Refusal.{LeavesAll, RefusesSizeAlone, TellsFaults, WorksBy}
+use Rattle.rs01_linear.specs.Spared.{StaysGood}
 use Rattle.rs01_linear.specs.declared.refusal.ReadRefusal.{ReadRefusal}
 use Rattle.rs01_adaptive.specs.Outcome.{IsLeftAt, OfWhole, TellsReading}
 use Rattle.rs01_adaptive.specs.Whole.{Whole, end_in, image_left, report_of}
@@ -45,8 +46,11 @@ pub record IsTurned (image : List ℕ) (ecc : Option (Bor (List ℕ))) (tries : 
   pub works : WorksBy image desk desk' result
   pub lasts : RackLasts rack rack'
   pub causes : IfErr result TellsFaults
+  pub size : IfErr result (RefusesSizeAlone ecc)
+  pub untouched : IfErr result (LeavesAll desk desk')
   pub refused : RefusesBy result rack rack'
   pub told : TellsReading desk desk' ecc tries image result rack rack'
+  pub stays : StaysGood desk desk' ecc image rack rack'
 
 -- however a medium was read so, what is put and the status make a run of it
 abbrev pub TellsTurned : (image : List ℕ) → Result ReadReport ReadRefusal → (out out' : SinkState) → (status : ℕ) → Type 0

@@ -35,6 +35,8 @@ verify_work image ecc = record {
   refusal = λ found. fault_in verify_fault (answer_to image ecc found);
   done = λ old new put status. IsOkAnd (answer_to image ecc old) (IsChecked image old new put status);
   may_stand = λ old new. new.files ≡ old.files;
+  keeps = λ old new. new ≡ old;
   only_reads = true;
   uses_drives = false;
+  sized_by_drives = false;
 }

@@ -1,5 +1,6 @@
 -- What a run has to do, whatever its command.
 use Rattle.std.specs.Prelude.{ℕ, ◌≡◌, Bool, false, true, List, Option, Some, None, Result, Ok, Err}
+use Rattle.rs01_outside.specs.Files.{Files}
 use Rattle.rs01_report.specs.declared.faults.Fault.{Fault}
 use Rattle.rs01_report.specs.Faults.{fault_line, status_of}
 use Rattle.rs01_top.specs.Outside.{Outside}
@@ -12,10 +13,14 @@ pub record Work : Type 1 where
   pub done : Outside → Outside → List ℕ → ℕ → Type 0
   -- what may stand after any run, also after a fault or want of memory
   pub may_stand : Outside → Outside → Type 0
+  -- what stays of the files after any run, whatever the drives are
+  pub keeps : Files → Files → Type 0
   -- whether it only reads files
   pub only_reads : Bool
   -- whether it asks the drives; other work leaves them as they are
   pub uses_drives : Bool
+  -- whether they alone say how many sectors the medium has, since no error correction file is named
+  pub sized_by_drives : Bool
 
 -- nothing changes, no sector is asked for, the fault's line is put, and the status is the fault's
 pub record IsRefused (why : Fault) (old new : Outside) (put : List ℕ) (status : ℕ) : Type 0 where
@@ -39,8 +44,10 @@ no_work why = record {
   refusal = λ found. Some why;
   done = λ old new put status. ⊥;
   may_stand = λ old new. new.files ≡ old.files;
+  keeps = λ old new. new ≡ old;
   only_reads = true;
   uses_drives = false;
+  sized_by_drives = false;
 }
 
 -- the fault of an answer that is a refusal

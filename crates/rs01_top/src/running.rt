@@ -21,7 +21,7 @@ use crate::faults::word_fault;
 use rs01_outside::{Desk, Drive, Gate, Sink};
 use rs01_rack::Rack;
 use rs01_report::Status;
-use rs01_words::{Command, read_words, word_at as at};
+use rs01_words::{Command, read_words, word_at as at, word_if_any};
 use std::alloc::Global;
 use std::sync::Wait;
 use std::thread::Threads;
@@ -32,7 +32,7 @@ fn word_if(words: &[String], place: Option<usize>) -> Option<&str>
     ensures { option_map (λ word. word.now) result ≡ option_map (word_at (texts words.now)) place }
 {
     match place {
-        Some(place) => Some(at(words, place)),
+        Some(place) => word_if_any(words, place),
         None => None,
     }
 }
@@ -224,11 +224,12 @@ fn answer<R: Threads + Wait + Sync, D: Desk, S: Sink, G: Gate>(
 /// Its clause holds of every run. Where desk and drives tell, files, views, bytes put and status are those that words,
 /// files and drives determine, and the definition says what may stand after a fault. On any desk, drives and output each
 /// other status has its cause in a count of faults, no fault is passed over, and drives that the words don't name stay as
-/// they are.
+/// they are. Wherever the desk tells, whatever the drives give, a run that is refused changes no file, and what is good in
+/// the image file of `read` stays.
 ///
 /// | Status | Where |
 /// |---|---|
-/// | 0 | the command was done; `fix` or `demo` left no sector lost and found no layer strange; `verify` found no sector missing or altered, and the image's digest to match; `scan` found no sector unreadable or altered; `read` left no sector lost |
+/// | 0 | the command was done; `fix`, `read` or `demo` left no sector lost and found no layer strange; `verify` found no sector missing or altered, and the image's digest to match; `scan` found no sector unreadable or altered |
 /// | 1 | `fix`, `verify`, `scan`, `read` or `demo` was done, and it is otherwise |
 /// | 2 | the words aren't in the grammar |
 /// | 3 | the image isn't there, is empty, has too many sectors, or has a sector that is marked as missing; or the error correction file isn't there or is damaged |

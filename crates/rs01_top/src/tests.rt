@@ -3,6 +3,7 @@ use crate::run_one;
 use rs01_fakes::{MemoryDesk, MemorySink};
 use rs01_outside::{Desk, Failed, Sink};
 use rs01_rack::Rack;
+use rs01_sums::marker;
 use std::alloc::{AllocError, Global};
 use std::fmt::Write;
 use std::process::Abort;
@@ -10,6 +11,7 @@ use std::test::Fail;
 
 mod demo;
 mod drives;
+mod interrupted;
 mod layers;
 mod turns;
 mod workers;
@@ -28,6 +30,18 @@ pub fn no_drives(alloc: Global) -> Result<Rack, AllocError> {
     Rack::new(alloc, Vec::new(alloc))
 }
 
+// Runs a line on one thread.
+pub fn run_line<D: Desk>(
+    alloc: Global,
+    line: &str,
+    desk: &mut D,
+    rack: &mut Rack,
+    out: &mut MemorySink,
+) -> Result<u8, AllocError> {
+    let words = words_of(alloc, line)?;
+    Ok(run_one(alloc, &words, desk, rack, out))
+}
+
 // Runs a line, and tells the status and whether these bytes were put.
 pub fn puts<D: Desk>(
     alloc: Global,
@@ -35,10 +49,9 @@ pub fn puts<D: Desk>(
     desk: &mut D,
     want: &str,
 ) -> Result<(u8, bool), AllocError> {
-    let words = words_of(alloc, line)?;
     let mut out = MemorySink::new(alloc);
     let mut rack = no_drives(alloc)?;
-    let status = run_one(alloc, &words, desk, &mut rack, &mut out);
+    let status = run_line(alloc, line, desk, &mut rack, &mut out)?;
     Ok((status, out.bytes() == want.as_bytes() && out.faults() == 0))
 }
 
@@ -206,13 +219,13 @@ fn faults(rt: HostRuntime) -> Result<(), Fail> {
     ];
     for (call, put, status, size, want) in cases {
         let mut desk = MemoryDesk::new(rt.alloc());
-        let words = words_of(rt.alloc(), "create disc.iso disc.ecc")?;
         desk.put_file(rt.alloc(), "disc.iso", b"abc")?;
         desk.fail_call(call);
         let mut out = MemorySink::new(rt.alloc());
         out.fail_put(put);
         let mut rack = no_drives(rt.alloc())?;
-        let ended = run_one(rt.alloc(), &words, &mut desk, &mut rack, &mut out);
+        let line = "create disc.iso disc.ecc";
+        let ended = run_line(rt.alloc(), line, &mut desk, &mut rack, &mut out)?;
         assert_eq!(rt; ended, status, "call {call}");
         assert!(rt; out.bytes() == want.as_bytes(), "call {call}");
         assert_eq!(rt; size_of(&desk, "disc.ecc"), size, "call {call}");
@@ -230,10 +243,9 @@ pub fn protected(alloc: Global, len: usize, parity: u32) -> Result<MemoryDesk, A
     desk.put_file(alloc, "disc.iso", &image)?;
     let mut line = String::new(alloc);
     write!(line, "create disc.iso disc.ecc --parity {parity}")?;
-    let words = words_of(alloc, line.as_str())?;
     let mut rack = no_drives(alloc)?;
     let mut out = MemorySink::new(alloc);
-    let _status = run_one(alloc, &words, &mut desk, &mut rack, &mut out);
+    let _status = run_line(alloc, line.as_str(), &mut desk, &mut rack, &mut out)?;
     Ok(desk)
 }
 
@@ -288,35 +300,103 @@ fn checked_images(rt: HostRuntime) -> Result<(), Fail> {
     Ok(())
 }
 
+// Whether a file has so many bytes, and all are zeros.
+pub fn is_blank(desk: &MemoryDesk, name: &str, len: usize) -> bool {
+    desk.file(name).is_some_and(|file| file.len() == len && file.iter().all(|byte| *byte == 0))
+}
+
+// The names that a run may find or leave.
+pub const NAMES: [&str; 6] = [
+    "disc.iso",
+    "disc.ecc",
+    "new.iso",
+    "other.ecc",
+    "demo.iso",
+    "demo.ecc",
+];
+
+// A desk with the files of another one.
+pub fn copied(alloc: Global, desk: &MemoryDesk) -> Result<MemoryDesk, AllocError> {
+    let mut copy = MemoryDesk::new(alloc);
+    for name in NAMES {
+        if let Some(file) = desk.file(name) {
+            copy.put_file(alloc, name, file)?;
+        }
+    }
+    Ok(copy)
+}
+
 #[test]
 fn files_that_are_refused(rt: HostRuntime) -> Result<(), Fail> {
-    // The length to which the error correction file is cut, the byte that is put at a place of it, and what is told.
-    for (len, at, byte, want) in [
-        (
-            136_063u64,
-            0u64,
-            b"*",
-            "rs01: the file has 136063 bytes, 136064 are expected\n",
-        ),
+    // The length to which the error correction file of one sector is cut, the bytes that are put at a place of it, and
+    // what is told. Its numbers of sectors, data bytes and parity bytes stand from 68 on.
+    let cases: [(u64, u64, &[u8], &str); 12] = [
+        (0, 0, b"", "rs01: the file has 0 bytes, 4096 are expected\n"),
+        (1, 0, b"", "rs01: the file has 1 bytes, 4096 are expected\n"),
         (
             4095,
             0,
-            b"*",
+            b"",
             "rs01: the file has 4095 bytes, 4096 are expected\n",
         ),
-        (136_064, 0, b"!", "rs01: header: cookie\n"),
-        (136_064, 88, b"\xff", "rs01: header: version\n"),
-    ] {
-        let mut desk = protected(rt.alloc(), 458_752, 32)?;
+        (
+            4096,
+            0,
+            b"",
+            "rs01: the file has 4096 bytes, 69636 are expected\n",
+        ),
+        (
+            4100,
+            0,
+            b"",
+            "rs01: the file has 4100 bytes, 69636 are expected\n",
+        ),
+        (
+            69_635,
+            0,
+            b"",
+            "rs01: the file has 69635 bytes, 69636 are expected\n",
+        ),
+        (
+            69_636,
+            69_636,
+            b"+",
+            "rs01: the file has 69637 bytes, 69636 are expected\n",
+        ),
+        (
+            4096,
+            68,
+            b"\xff\xff\xff\0\0\0\0\0\x9b\0\0\0\x64\0\0\0",
+            "rs01: the file has 4096 bytes, 22234869756 are expected\n",
+        ),
+        (
+            69_636,
+            68,
+            b"\x01\0\0\0\x01\0\0\0",
+            "rs01: header: sectors\n",
+        ),
+        (
+            69_636,
+            76,
+            b"\xff\xff\xff\xff\x64\0\0\0",
+            "rs01: header: parity\n",
+        ),
+        (69_636, 0, b"!", "rs01: header: cookie\n"),
+        (69_636, 88, b"\xff", "rs01: header: version\n"),
+    ];
+    let files = protected(rt.alloc(), 2048, 32)?;
+    for (len, at, bytes, want) in cases {
+        let mut desk = copied(rt.alloc(), &files)?;
         assert!(rt;
-            desk.cut("disc.ecc", len).is_ok() && desk.write_at("disc.ecc", at, byte).is_ok()
+            desk.cut("disc.ecc", len).is_ok() && desk.write_at("disc.ecc", at, bytes).is_ok()
         );
         for line in ["verify disc.iso disc.ecc", "fix disc.iso disc.ecc"] {
             let ran = puts(rt.alloc(), line, &mut desk, want)?;
             assert_eq!(rt; ran, (3, true), "{want}");
+            assert!(rt; is_blank(&desk, "disc.iso", 2048), "{want}");
         }
     }
-    let mut desk = protected(rt.alloc(), 458_752, 32)?;
+    let mut desk = files;
     let want = "rs01: no error correction file\n";
     let ran = puts(rt.alloc(), "verify disc.iso other.ecc", &mut desk, want)?;
     assert_eq!(rt; ran, (3, true));
@@ -330,17 +410,16 @@ fn files_that_are_refused(rt: HostRuntime) -> Result<(), Fail> {
     Ok(())
 }
 
-// Marks sectors as missing, from one to another.
-fn mark(alloc: Global, desk: &mut MemoryDesk, first: u32, last: u32) -> Result<bool, AllocError> {
+// Marks sectors of the image as missing, from one to another.
+pub fn mark(desk: &mut MemoryDesk, first: u32, last: u32) -> bool {
     let mut marked = true;
     for sector in first..=last {
-        let mut text = String::new(alloc);
-        write!(text, "rs01 missing sector {sector:010}\n")?;
-        marked &= desk
-            .write_at("disc.iso", 2048 * u64::from(sector), text.as_bytes())
-            .is_ok();
+        let mut block = [0; 2048];
+        marker(sector, &mut block);
+        let at = 2048 * u64::from(sector);
+        marked &= desk.write_at("disc.iso", at, &block).is_ok();
     }
-    Ok(marked)
+    marked
 }
 
 #[test]
@@ -404,15 +483,13 @@ fn repaired_images(rt: HostRuntime) -> Result<(), Fail> {
         assert!(rt;
             desk.cut("disc.iso", len).is_ok() && desk.write_at("disc.iso", len - 1, &[0]).is_ok()
         );
-        assert!(rt; mark(rt.alloc(), &mut desk, 10, last)?);
+        assert!(rt; mark(&mut desk, 10, last));
         let mut line = String::new(rt.alloc());
         write!(line, "fix disc.iso disc.ecc {option}")?;
         let ran = puts(rt.alloc(), line.as_str(), &mut desk, want)?;
         assert_eq!(rt; ran, (status, true), "{want}");
         assert_eq!(rt; size_of(&desk, "disc.iso"), Some(size), "{want}");
-        let whole = desk
-            .file("disc.iso")
-            .is_some_and(|file| file.iter().all(|byte| *byte == 0));
+        let whole = is_blank(&desk, "disc.iso", size);
         assert_eq!(rt; whole, status == 0, "{want}");
     }
     Ok(())
@@ -439,43 +516,15 @@ fn interrupted_creates(rt: HostRuntime) -> Result<(), Fail> {
                 "call {call}"
             );
             desk.fail_call(u64::MAX);
-            let words = words_of(rt.alloc(), "verify disc.iso disc.ecc")?;
             let mut out = MemorySink::new(rt.alloc());
             let mut rack = no_drives(rt.alloc())?;
-            let status = run_one(rt.alloc(), &words, &mut desk, &mut rack, &mut out);
+            let line = "verify disc.iso disc.ecc";
+            let status = run_line(rt.alloc(), line, &mut desk, &mut rack, &mut out)?;
             // A header has no byte behind its first 2047 that isn't zero, so the file is whole then.
             let want = if call == 7 && kept == 2047 { 0 } else { 3 };
             assert_eq!(rt; status, want, "call {call}, {kept} bytes kept");
         }
     }
-    Ok(())
-}
-
-#[test]
-fn interrupted_repair(rt: HostRuntime) -> Result<(), Fail> {
-    let mut marked = protected(rt.alloc(), 505_856, 8)?;
-    assert!(rt; mark(rt.alloc(), &mut marked, 10, 17)?);
-    let (Some(image), Some(ecc)) = (marked.file("disc.iso"), marked.file("disc.ecc")) else {
-        return Err(Fail::new("a file isn't there"));
-    };
-    let mut desk = MemoryDesk::new(rt.alloc());
-    desk.put_file(rt.alloc(), "disc.iso", image)?;
-    desk.put_file(rt.alloc(), "disc.ecc", ecc)?;
-    desk.fail_write(2);
-    desk.keep_prefix(Some(100));
-    let line = "fix disc.iso disc.ecc";
-    let ran = puts(rt.alloc(), line, &mut desk, "rs01: writing a file failed\n")?;
-    assert_eq!(rt; ran, (4, true));
-    assert_eq!(rt; size_of(&desk, "disc.iso"), Some(505_856));
-    // The 100 bytes that were kept are all of sector 12 that differs.
-    let want =
-        "fixed disc.iso\nrestored 5: 13-17\nlost 0: none\nstrange layers 0\nsurplus bytes 0\n";
-    let ran = puts(rt.alloc(), line, &mut desk, want)?;
-    assert_eq!(rt; ran, (0, true));
-    let whole = desk
-        .file("disc.iso")
-        .is_some_and(|file| file.iter().all(|byte| *byte == 0));
-    assert!(rt; whole);
     Ok(())
 }
 

@@ -15,11 +15,13 @@ use rs01_rack::Rack;
 use rs01_report::{ReadReport, Status, put_read};
 use std::alloc::Global;
 
-// The status of a reading: done where no sector is lost.
+// The status of a reading: done where no sector is lost and no layer is strange.
 pub fn read_status(report: &ReadReport) -> Status
     ensures { number_of result ≡ read_status report.now }
 {
-    if report.lost.len() == 0 {
+    let lost = report.lost.len();
+    let strange = report.strange.len();
+    if lost == 0 && strange == 0 {
         Status::Done
     } else {
         Status::Damaged

@@ -1,6 +1,5 @@
 //! Runs that ask drives: scans, and readings into an image.
-use super::{image_with, no_drives, protected, size_of, words_of};
-use crate::run_one;
+use super::{image_with, is_blank, no_drives, protected, run_line, size_of};
 use rs01_fakes::{MemoryDesk, MemorySink, Script, ScriptDrive};
 use rs01_outside::{Desk, Drive};
 use rs01_rack::Rack;
@@ -9,7 +8,7 @@ use std::process::Abort;
 use std::test::Fail;
 
 // A drive of zeros: so many sectors, one that it fails to read, and a byte that isn't 0.
-fn drive(
+pub fn drive(
     alloc: Global,
     sectors: u32,
     fault: Option<u32>,
@@ -29,7 +28,7 @@ fn drive(
 }
 
 // One drive or two.
-fn rack_of(
+pub fn rack_of(
     alloc: Global,
     first: ScriptDrive,
     second: Option<ScriptDrive>,
@@ -50,9 +49,8 @@ fn asks(
     rack: &mut Rack,
     want: &str,
 ) -> Result<(u8, bool), AllocError> {
-    let words = words_of(alloc, line)?;
     let mut out = MemorySink::new(alloc);
-    let status = run_one(alloc, &words, desk, rack, &mut out);
+    let status = run_line(alloc, line, desk, rack, &mut out)?;
     Ok((status, out.bytes() == want.as_bytes()))
 }
 
@@ -322,11 +320,7 @@ fn read_media(rt: HostRuntime) -> Result<(), Fail> {
     ] {
         check_read(&rt, rt.alloc(), &mut desk, &row)?;
     }
-    assert_eq!(rt; size_of(&desk, "new.iso"), Some(20_480));
-    let whole = desk
-        .file("new.iso")
-        .is_some_and(|file| file.iter().all(|byte| *byte == 0));
-    assert!(rt; whole);
+    assert!(rt; is_blank(&desk, "new.iso", 20_480));
     Ok(())
 }
 

@@ -1,39 +1,29 @@
 //! Repairs of a layer beyond its bound beside one within, and of strange layers.
-use super::{protected, puts};
+use super::{mark, protected, puts};
 use md5::{Digest, Md5};
 use rs01_fakes::MemoryDesk;
 use rs01_outside::Desk;
-use std::alloc::{AllocError, Global};
-use std::fmt::Write;
 use std::process::Abort;
 use std::test::Fail;
 
-// Marks a sector of the image as missing.
-fn mark(alloc: Global, desk: &mut MemoryDesk, sector: u64) -> Result<bool, AllocError> {
-    let mut text = String::new(alloc);
-    write!(text, "rs01 missing sector {sector:010}\n")?;
-    let at = sector.saturating_mul(2048);
-    Ok(desk.write_at("disc.iso", at, text.as_bytes()).is_ok())
-}
-
 // Marks the 33 even sectors from 0 to 64, which all lie in the first of two layers.
-fn mark_the_even(alloc: Global, desk: &mut MemoryDesk) -> Result<bool, AllocError> {
+fn mark_the_even(desk: &mut MemoryDesk) -> bool {
     let mut marked = true;
-    for half in 0u64..33 {
-        marked &= mark(alloc, desk, half.saturating_mul(2))?;
+    for half in 0u32..33 {
+        marked &= mark(desk, 2 * half, 2 * half);
     }
-    Ok(marked)
+    marked
 }
 
 #[test]
 fn one_layer_of_two_beyond_its_bound(rt: HostRuntime) -> Result<(), Fail> {
     let alloc = rt.alloc();
     let mut kept = protected(alloc, 458_752, 32)?;
-    assert!(rt; mark_the_even(alloc, &mut kept)?);
+    assert!(rt; mark_the_even(&mut kept));
     let mut desk = protected(alloc, 458_752, 32)?;
-    assert!(rt; mark_the_even(alloc, &mut desk)?);
-    for sector in [1u64, 3, 5] {
-        assert!(rt; mark(alloc, &mut desk, sector)?);
+    assert!(rt; mark_the_even(&mut desk));
+    for sector in [1u32, 3, 5] {
+        assert!(rt; mark(&mut desk, sector, sector));
     }
     let want =
         "fixed disc.iso\nrestored 3: 1,3,5\nlost 33: 0,2,4,6,8,10,12,14,16,18,20,22,24,26,28,30,32,34,36,38,40,42,44,46,48,50,52,54,56,58,60,62,64\nstrange layers 0\nsurplus bytes 0\n";
@@ -43,8 +33,8 @@ fn one_layer_of_two_beyond_its_bound(rt: HostRuntime) -> Result<(), Fail> {
     Ok(())
 }
 
-// Puts a byte into the error correction file, and makes the digest of its body anew.
-fn change(desk: &mut MemoryDesk, at: u64) -> bool {
+/// Puts a byte into the error correction file, and makes the digest of its body anew.
+pub fn change(desk: &mut MemoryDesk, at: u64) -> bool {
     if desk.write_at("disc.ecc", at, b"?").is_err() {
         return false;
     }

@@ -1,11 +1,11 @@
 //! Readings by turns.
-use super::{protected, words_of};
-use crate::{run, run_one};
+use super::layers::change;
+use super::workers::run_shared;
+use super::{protected, run_line};
 use rs01_fakes::{MeetDrive, MeetGate, MemoryDesk, MemorySink, Script, ScriptDrive};
 use rs01_outside::{Drive, OpenGate};
 use rs01_rack::Rack;
 use std::alloc::{AllocError, Global};
-use std::fmt::Write;
 use std::process::Abort;
 use std::sync::Arc;
 use std::test::Fail;
@@ -50,12 +50,13 @@ fn was_asked(rack: &Rack, runs: &[(u32, u32)]) -> bool {
     rack.asked_at(0, place).is_none()
 }
 
-// A reading of a medium of zeros: its sectors, the parity of the error correction file, the words, the sectors that the
-// drive fails to read, the asks, the status and what is put.
+// A reading of a medium of zeros: its sectors, the parity of the error correction file and a byte of it that was changed,
+// the words, the sectors that the drive fails to read, the asks, the status and what is put.
 #[derive(Clone, Copy)]
 struct Row {
     sectors: u32,
     parity: u32,
+    changed: Option<u64>,
     line: &'static str,
     faults: &'static [(u32, u32)],
     asks: &'static [(u32, u32)],
@@ -74,6 +75,7 @@ fn media_read_by_turns(rt: HostRuntime) -> Result<(), Fail> {
         Row {
             sectors: 10,
             parity: 32,
+            changed: None,
             line: "read new.iso --drive d --adaptive",
             faults: &[(4, 5)],
             asks: &[(0, 4), (7, 9), (6, 6), (5, 5)],
@@ -83,6 +85,7 @@ fn media_read_by_turns(rt: HostRuntime) -> Result<(), Fail> {
         Row {
             sectors: 20,
             parity: 32,
+            changed: None,
             line: "read new.iso disc.ecc --drive d --adaptive",
             faults: &[],
             asks: &[],
@@ -92,6 +95,7 @@ fn media_read_by_turns(rt: HostRuntime) -> Result<(), Fail> {
         Row {
             sectors: 223,
             parity: 32,
+            changed: None,
             line: "read new.iso disc.ecc --drive d --adaptive",
             faults: &[],
             asks: &[(0, 190)],
@@ -101,6 +105,7 @@ fn media_read_by_turns(rt: HostRuntime) -> Result<(), Fail> {
         Row {
             sectors: 223,
             parity: 32,
+            changed: None,
             line: "read new.iso disc.ecc --drive d --adaptive",
             faults: &[(3, 4)],
             asks: &[(0, 3), (113, 222), (58, 112), (31, 53)],
@@ -110,6 +115,7 @@ fn media_read_by_turns(rt: HostRuntime) -> Result<(), Fail> {
         Row {
             sectors: 247,
             parity: 8,
+            changed: None,
             line: "read new.iso disc.ecc --drive d --adaptive",
             faults: &[(238, 247)],
             asks: &[
@@ -129,20 +135,33 @@ fn media_read_by_turns(rt: HostRuntime) -> Result<(), Fail> {
         Row {
             sectors: 446,
             parity: 32,
+            changed: None,
             line: "read new.iso disc.ecc --drive d --adaptive",
             faults: &[],
             asks: &[(0, 381)],
             status: 0,
             want: "read new.iso\nsectors 446\nasked 382\nkept 0\nread 382\nunreadable 0: none\naltered 0: none\nnot asked 64: 382-445\nrestored 64: 382-445\nlost 0: none\nstrange layers 0\nsurplus bytes 0\n",
         },
+        Row {
+            sectors: 247,
+            parity: 8,
+            changed: Some(4096 + 4 * 247 + 8 * 5),
+            line: "read disc.iso disc.ecc --drive d --adaptive",
+            faults: &[],
+            asks: &[],
+            status: 1,
+            want: "read disc.iso\nsectors 247\nasked 0\nkept 247\nread 0\nunreadable 0: none\naltered 0: none\nnot asked 0: none\nrestored 0: none\nlost 0: none\nstrange layers 1\nlayer 0: codeword 5 disagrees\nsurplus bytes 0\n",
+        },
     ] {
         let alloc = rt.alloc();
         let bytes = (row.sectors as usize).saturating_mul(2048);
         let mut desk = protected(alloc, bytes, row.parity)?;
+        if let Some(at) = row.changed {
+            assert!(rt; change(&mut desk, at));
+        }
         let mut rack = rack_with(alloc, row.sectors, row.faults)?;
-        let words = words_of(alloc, row.line)?;
         let mut out = MemorySink::new(alloc);
-        let status = run_one(alloc, &words, &mut desk, &mut rack, &mut out);
+        let status = run_line(alloc, row.line, &mut desk, &mut rack, &mut out)?;
         assert_eq!(rt; status, row.status, "{} sectors", row.sectors);
         assert!(rt; is_as_wanted(row, &out, &rack), "{} sectors", row.sectors);
         let same = desk.file("new.iso") == desk.file("disc.iso");
@@ -170,22 +189,17 @@ fn media_read_by_several_workers(rt: HostRuntime) -> Result<(), Fail> {
     for faults in cases {
         let mut one = protected(alloc, 913_408, 32)?;
         let mut first = rack_with(alloc, 446, faults)?;
-        let words = words_of(alloc, "read new.iso disc.ecc --drive d --adaptive")?;
+        let line = "read new.iso disc.ecc --drive d --adaptive";
         let mut want = MemorySink::new(alloc);
-        let status = run_one(alloc, &words, &mut one, &mut first, &mut want);
-        for workers in [1u32, 2, 7] {
+        let status = run_line(alloc, line, &mut one, &mut first, &mut want)?;
+        for workers in [1u32, 2, 7, 32] {
             let mut desk = protected(alloc, 913_408, 32)?;
             let mut rack = rack_with(alloc, 446, faults)?;
-            let mut line = String::new(alloc);
-            write!(
-                line,
-                "read new.iso disc.ecc --drive d --adaptive --workers {workers}"
-            )?;
-            let words = words_of(alloc, line.as_str())?;
+            let shared = format!(in alloc; "{line} --workers {workers}")?;
             let mut out = MemorySink::new(alloc);
-            let ran = run(
-                &rt, alloc, &words, &mut desk, &mut rack, &mut out, &OpenGate,
-            );
+            let ran = run_shared(
+                &rt, alloc, &shared, &mut desk, &mut rack, &mut out, &OpenGate,
+            )?;
             assert_eq!(rt; ran, status, "{workers} workers");
             assert!(rt; out.bytes() == want.bytes(), "{workers} workers");
             assert!(rt;
@@ -210,9 +224,8 @@ fn worker_beside_reader(rt: HostRuntime) -> Result<(), Fail> {
     let mut rack = Rack::new(alloc, drives)?;
     let mut desk = protected(alloc, 913_408, 32)?;
     let line = "read new.iso disc.ecc --drive d --adaptive --workers 2";
-    let words = words_of(alloc, line)?;
     let mut out = MemorySink::new(alloc);
-    let status = run(&rt, alloc, &words, &mut desk, &mut rack, &mut out, &*gate);
+    let status = run_shared(&rt, alloc, line, &mut desk, &mut rack, &mut out, &*gate)?;
     assert_eq!(rt; status, 0);
     assert!(rt; gate.waited() && gate.met());
     assert!(rt; was_asked(&rack, &[(0, 381)]));

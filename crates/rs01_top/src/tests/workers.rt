@@ -1,10 +1,10 @@
 //! Runs by several workers: files, lines and status are those of one.
-use super::{no_drives, words_of};
-use crate::{run, run_one};
+use super::{mark, no_drives, puts, words_of};
+use crate::run;
 use rs01_fakes::{MeetGate, MemoryDesk, MemorySink};
-use rs01_outside::{Desk, Gate, OpenGate, Sink};
+use rs01_outside::{Gate, OpenGate, Sink};
+use rs01_rack::Rack;
 use std::alloc::{AllocError, Global};
-use std::fmt::Write;
 use std::process::Abort;
 use std::sync::Wait;
 use std::test::Fail;
@@ -16,81 +16,140 @@ const CREATED: &str =
 const FIXED: &str =
     "fixed disc.iso\nrestored 20: 100-119\nlost 0: none\nstrange layers 0\nsurplus bytes 0\n";
 
-// An image of 500 sectors, in which neighbours differ.
-fn image(alloc: Global) -> Result<Vec<u8>, AllocError> {
-    let mut image = vec![in alloc; 0u8; 1_024_000]?;
+// An image of so many sectors, in which neighbours differ.
+fn image(alloc: Global, sectors: usize) -> Result<Vec<u8>, AllocError> {
+    let mut image = vec![in alloc; 0u8; sectors.saturating_mul(2048)]?;
     for (i, byte) in image.iter_mut().enumerate() {
         *byte = (((i >> 11) ^ (i >> 3) ^ i) & 0xff) as u8;
     }
     Ok(image)
 }
 
-// Marks sectors 100 to 119 as missing.
-fn mark(alloc: Global, desk: &mut MemoryDesk) -> Result<bool, AllocError> {
-    let mut marked = true;
-    for sector in 100u64..120 {
-        let mut text = String::new(alloc);
-        write!(text, "rs01 missing sector {sector:010}\n")?;
-        let at = 2048 * sector;
-        marked &= desk.write_at("disc.iso", at, &[0u8; 2048]).is_ok();
-        marked &= desk.write_at("disc.iso", at, text.as_bytes()).is_ok();
-    }
-    Ok(marked)
+// Runs a line by `run`.
+pub fn run_shared<R: Threads + Wait + Sync, G: Gate>(
+    rt: &R,
+    alloc: Global,
+    line: &str,
+    desk: &mut MemoryDesk,
+    rack: &mut Rack,
+    out: &mut MemorySink,
+    gate: &G,
+) -> Result<u8, AllocError> {
+    let words = words_of(alloc, line)?;
+    Ok(run(rt, alloc, &words, desk, rack, out, gate))
 }
 
-// Runs a line with this option by several workers, and tells the status and whether these bytes were put.
+// Runs a line without drives, and tells the status and whether these bytes were put.
 fn runs<R: Threads + Wait + Sync, G: Gate>(
     rt: &R,
     alloc: Global,
     line: &str,
-    workers: u32,
     desk: &mut MemoryDesk,
     gate: &G,
     want: &str,
 ) -> Result<(u8, bool), AllocError> {
-    let mut text = String::new(alloc);
-    write!(text, "{line} --workers {workers}")?;
-    let words = words_of(alloc, text.as_str())?;
     let mut out = MemorySink::new(alloc);
     let mut rack = no_drives(alloc)?;
-    let status = run(rt, alloc, &words, desk, &mut rack, &mut out, gate);
+    let status = run_shared(rt, alloc, line, desk, &mut rack, &mut out, gate)?;
     Ok((status, out.bytes() == want.as_bytes() && out.faults() == 0))
+}
+
+// An image of so many sectors by so many parity bytes; what making its file puts, and what repairing sectors 100 to 119
+// puts.
+#[derive(Clone, Copy)]
+struct Shared {
+    sectors: usize,
+    parity: u32,
+    created: &'static str,
+    fixed: &'static str,
+}
+
+const THREE_LAYERS: Shared = Shared {
+    sectors: 500,
+    parity: 32,
+    created: CREATED,
+    fixed: FIXED,
+};
+
+// 65 layers, of which the last one is alone in its window.
+const TWO_WINDOWS: Shared = Shared {
+    sectors: 15_809,
+    parity: 8,
+    created: "created disc.ecc\nsectors 15809, layers 65, parity 8\nlast sector 2048 bytes\nimage md5 6ea81cec133d6094748df4036f0a1731\n",
+    fixed: FIXED,
+};
+
+// What one worker leaves of an image and its file.
+fn made_by_one<A: Abort>(
+    rt: &A,
+    alloc: Global,
+    row: Shared,
+    image: &[u8],
+) -> Result<MemoryDesk, AllocError> {
+    let mut one = MemoryDesk::new(alloc);
+    one.put_file(alloc, "disc.iso", image)?;
+    let line = format!(in alloc; "create disc.iso disc.ecc --parity {}", row.parity)?;
+    let ran = puts(alloc, &line, &mut one, row.created)?;
+    assert_eq!(rt; ran, (0, true), "one worker");
+    Ok(one)
+}
+
+// Makes the file of an image by so many workers, and repairs the image by as many: files and lines are those of one.
+fn check_shared<R: Threads + Wait + Sync + Abort>(
+    rt: &R,
+    alloc: Global,
+    row: Shared,
+    image: &[u8],
+    one: &MemoryDesk,
+    workers: u32,
+) -> Result<(), AllocError> {
+    let mut desk = MemoryDesk::new(alloc);
+    desk.put_file(alloc, "disc.iso", image)?;
+    let line = format!(in alloc;
+        "create disc.iso disc.ecc --parity {} --workers {workers}",
+        row.parity
+    )?;
+    let ran = runs(rt, alloc, &line, &mut desk, &OpenGate, row.created)?;
+    assert_eq!(rt; ran, (0, true), "{workers} workers");
+    assert!(rt;
+        desk.file("disc.ecc") == one.file("disc.ecc"),
+        "{workers} workers"
+    );
+    assert!(rt; mark(&mut desk, 100, 119));
+    let line = format!(in alloc; "fix disc.iso disc.ecc --workers {workers}")?;
+    let ran = runs(rt, alloc, &line, &mut desk, &OpenGate, row.fixed)?;
+    assert_eq!(rt; ran, (0, true), "{workers} workers");
+    assert!(rt; desk.file("disc.iso") == Some(image), "{workers} workers");
+    assert!(rt;
+        desk.file("disc.ecc") == one.file("disc.ecc"),
+        "{workers} workers"
+    );
+    Ok(())
+}
+
+// The file of an image and its repair, by one worker and then by several.
+fn check_all<R: Threads + Wait + Sync + Abort>(
+    rt: &R,
+    alloc: Global,
+    row: Shared,
+) -> Result<(), AllocError> {
+    let image = image(alloc, row.sectors)?;
+    let one = made_by_one(rt, alloc, row, &image)?;
+    for workers in [1u32, 2, 7, 32] {
+        check_shared(rt, alloc, row, &image, &one, workers)?;
+    }
+    Ok(())
 }
 
 #[test]
 fn files_and_lines_by_several_workers(rt: HostRuntime) -> Result<(), Fail> {
-    let image = image(rt.alloc())?;
-    let mut one = MemoryDesk::new(rt.alloc());
-    one.put_file(rt.alloc(), "disc.iso", &image)?;
-    let words = words_of(rt.alloc(), "create disc.iso disc.ecc")?;
-    let mut out = MemorySink::new(rt.alloc());
-    let mut rack = no_drives(rt.alloc())?;
-    let status = run_one(rt.alloc(), &words, &mut one, &mut rack, &mut out);
-    assert_eq!(rt; (status, out.bytes() == CREATED.as_bytes()), (0, true));
-    for workers in [1u32, 2, 7] {
-        let alloc = rt.alloc();
-        let mut desk = MemoryDesk::new(alloc);
-        desk.put_file(alloc, "disc.iso", &image)?;
-        let line = "create disc.iso disc.ecc";
-        let ran = runs(&rt, alloc, line, workers, &mut desk, &OpenGate, CREATED)?;
-        assert_eq!(rt; ran, (0, true), "{workers} workers");
-        assert!(rt;
-            desk.file("disc.ecc") == one.file("disc.ecc"),
-            "{workers} workers"
-        );
-        assert!(rt; mark(alloc, &mut desk)?);
-        let line = "fix disc.iso disc.ecc";
-        let ran = runs(&rt, alloc, line, workers, &mut desk, &OpenGate, FIXED)?;
-        assert_eq!(rt; ran, (0, true), "{workers} workers");
-        assert!(rt;
-            desk.file("disc.iso") == Some(image.as_slice()),
-            "{workers} workers"
-        );
-        assert!(rt;
-            desk.file("disc.ecc") == one.file("disc.ecc"),
-            "{workers} workers"
-        );
-    }
+    check_all(&rt, rt.alloc(), THREE_LAYERS)?;
+    Ok(())
+}
+
+#[test]
+fn two_windows_by_several_workers(rt: HostRuntime) -> Result<(), Fail> {
+    check_all(&rt, rt.alloc(), TWO_WINDOWS)?;
     Ok(())
 }
 
@@ -98,18 +157,18 @@ fn files_and_lines_by_several_workers(rt: HostRuntime) -> Result<(), Fail> {
 #[test]
 fn two_workers_meet(rt: HostRuntime) -> Result<(), Fail> {
     let alloc = rt.alloc();
-    let image = image(alloc)?;
+    let image = image(alloc, 500)?;
     let mut desk = MemoryDesk::new(alloc);
     desk.put_file(alloc, "disc.iso", &image)?;
     let making = MeetGate::new();
-    let line = "create disc.iso disc.ecc";
-    let ran = runs(&rt, alloc, line, 2, &mut desk, &making, CREATED)?;
+    let line = "create disc.iso disc.ecc --workers 2";
+    let ran = runs(&rt, alloc, line, &mut desk, &making, CREATED)?;
     assert_eq!(rt; ran, (0, true));
     assert!(rt; making.met());
-    assert!(rt; mark(alloc, &mut desk)?);
+    assert!(rt; mark(&mut desk, 100, 119));
     let mending = MeetGate::new();
-    let line = "fix disc.iso disc.ecc";
-    let ran = runs(&rt, alloc, line, 2, &mut desk, &mending, FIXED)?;
+    let line = "fix disc.iso disc.ecc --workers 2";
+    let ran = runs(&rt, alloc, line, &mut desk, &mending, FIXED)?;
     assert_eq!(rt; ran, (0, true));
     assert!(rt; mending.met());
     assert!(rt; desk.file("disc.iso") == Some(image.as_slice()));
@@ -136,17 +195,8 @@ fn lines_that_one_does(rt: HostRuntime) -> Result<(), Fail> {
         ),
     ];
     for (line, want, text) in cases {
-        let words = words_of(alloc, line)?;
-        let mut out = MemorySink::new(alloc);
-        let mut rack = no_drives(alloc)?;
-        let status = run(
-            &rt, alloc, &words, &mut desk, &mut rack, &mut out, &OpenGate,
-        );
-        assert_eq!(rt;
-            (status, out.bytes() == text.as_bytes()),
-            (want, true),
-            "{line}"
-        );
+        let ran = runs(&rt, alloc, line, &mut desk, &OpenGate, text)?;
+        assert_eq!(rt; ran, (want, true), "{line}");
     }
     Ok(())
 }

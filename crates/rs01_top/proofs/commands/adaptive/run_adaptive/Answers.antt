@@ -6,7 +6,10 @@ returns g c = record {
     works = c.read_adaptive-read.ensures.works;
     lasts = c.read_adaptive-read.ensures.lasts;
     causes = c.read_adaptive-read.ensures.causes;
+    size = c.read_adaptive-read.ensures.size;
+    untouched = c.read_adaptive-read.ensures.untouched;
     refused = c.read_adaptive-read.ensures.refused;
     told = c.read_adaptive-read.ensures.told;
+    stays = c.read_adaptive-read.ensures.stays;
   });
 }

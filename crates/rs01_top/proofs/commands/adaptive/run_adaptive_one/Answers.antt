@@ -6,7 +6,10 @@ returns g c = record {
     works = c.read_adaptive_one-read.ensures.works;
     lasts = c.read_adaptive_one-read.ensures.lasts;
     causes = c.read_adaptive_one-read.ensures.causes;
+    size = c.read_adaptive_one-read.ensures.size;
+    untouched = c.read_adaptive_one-read.ensures.untouched;
     refused = c.read_adaptive_one-read.ensures.refused;
     told = c.read_adaptive_one-read.ensures.told;
+    stays = c.read_adaptive_one-read.ensures.stays;
   });
 }
