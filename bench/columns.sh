@@ -5,19 +5,7 @@
 # Usage: bench/columns.sh [MEBIBYTES]
 # The peer is Debian's package dvdisaster; where it isn't installed, its columns say so.
 . "$(dirname "$0")/common.sh"
-mebibytes=${1:-256}
-bytes=$((mebibytes * 1048576))
-sectors=$((bytes / 2048))
-original=$folder/original
-damaged=$folder/damaged
-image=$folder/image
-ecc=$folder/ecc
-peer_ecc=$folder/peer_ecc
-
-# Each run has a fresh copy of the image that `from` names.
-prepare() {
-    cp "$from" "$image"
-}
+. "$(dirname "$0")/peer.sh"
 
 # Prints a line of the table: the parity, what was done, our time, that of md5sum, and that of the peer or nothing.
 line() {
@@ -27,18 +15,7 @@ line() {
     }'
 }
 
-# The time of the peer, or nothing where it isn't installed. How it ends isn't looked at, since its statuses differ.
-peer() {
-    if command -v dvdisaster > /dev/null 2>&1; then
-        clock any dvdisaster -i "$image" -e "$peer_ecc" "$@" 2> /dev/null
-    else
-        took=
-    fi
-}
-
-head -c "$bytes" /dev/urandom > "$original" || exit 1
-cp "$original" "$damaged" || exit 1
-dd if=/dev/zero of="$damaged" bs=2048 seek=$((sectors / 2)) count=$((sectors / 20)) conv=notrunc 2> /dev/null || exit 1
+make_images "${1:-256}"
 echo "$mebibytes MiB, $(uname -m), $(nproc 2> /dev/null || echo '?') processors, the best of three runs; ratios above 1: faster than the peer"
 printf '%6s %12s %11s %8s %11s %7s %11s %7s\n' parity work time MB/s md5sum ratio dvdisaster ratio
 from=$original

@@ -6,28 +6,7 @@
 # Usage: bench/workers.sh [MEBIBYTES]
 # The peer is Debian's package dvdisaster; where it isn't installed, its columns say so.
 . "$(dirname "$0")/common.sh"
-mebibytes=${1:-256}
-bytes=$((mebibytes * 1048576))
-sectors=$((bytes / 2048))
-original=$folder/original
-damaged=$folder/damaged
-image=$folder/image
-ecc=$folder/ecc
-peer_ecc=$folder/peer_ecc
-
-# Each run has a fresh copy of the image that `from` names.
-prepare() {
-    cp "$from" "$image"
-}
-
-# The time of the peer, or nothing where it isn't installed. How it ends isn't looked at, since its statuses differ.
-peer() {
-    if command -v dvdisaster > /dev/null 2>&1; then
-        clock any dvdisaster -i "$image" -e "$peer_ecc" "$@" 2> /dev/null
-    else
-        took=
-    fi
-}
+. "$(dirname "$0")/peer.sh"
 
 # Prints a line of the table: the workers, what was done, its time, that of one worker, and those of the peer or nothing.
 line() {
@@ -36,9 +15,7 @@ line() {
     }'
 }
 
-head -c "$bytes" /dev/urandom > "$original" || exit 1
-cp "$original" "$damaged" || exit 1
-dd if=/dev/zero of="$damaged" bs=2048 seek=$((sectors / 2)) count=$((sectors / 20)) conv=notrunc 2> /dev/null || exit 1
+make_images "${1:-256}"
 from=$original
 clock 0 md5sum "$image" || { echo "md5sum failed"; exit 1; }
 echo "$mebibytes MiB, $(uname -m), $(nproc 2> /dev/null || echo '?') processors, the best of three runs; md5sum takes $(awk -v t="$took" 'BEGIN { printf "%.3f", t / 1e9 }') s"

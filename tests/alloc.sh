@@ -176,6 +176,7 @@ number=0
 for workers in 1 2; do
     refuse_each create good.iso made.ecc --workers $workers
     refuse_each fix made.iso good.ecc --workers $workers
+    refuse_each read made.iso good.ecc --drive bad.iso --adaptive --workers $workers
 done
 refuse_each verify bad.iso good.ecc
 refuse_each verify bad.iso none.ecc
@@ -183,7 +184,7 @@ refuse_each scan good.ecc --drive good.iso --drive bad.iso
 refuse_each scan good.ecc --drive bad.iso
 refuse_each read made.iso good.ecc --drive bad.iso
 refuse_each read made.iso --drive good.iso
-refuse_each read made.iso good.ecc --drive bad.iso --adaptive
+refuse_each read made.iso --drive good.iso --adaptive
 refuse_each demo 7 300 16 20
 refuse_each verify good.iso
 same good.iso good.copy && same good.ecc good.ecc.copy || wrong "a file changed that no command was to change"

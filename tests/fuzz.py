@@ -30,6 +30,7 @@ from wanted import (
     wrong_fix,
     wrong_read,
     wrong_scan,
+    wrong_turns,
     wrong_verify,
     wrong_words,
 )
@@ -46,8 +47,11 @@ COMMANDS = {
     "scan": (["scan", "case.ecc", "--drive", "case.iso"], wrong_scan),
     "read": (["read", "new.iso", "case.ecc", "--drive", "case.iso"], wrong_read),
     "read on": (["read", "new.iso", "case.ecc", "--drive", "case.iso", "--jump", "3"], wrong_read),
+    "turns": (["read", "new.iso", "case.ecc", "--drive", "case.iso", "--adaptive"], wrong_turns),
+    "turns on": (["read", "new.iso", "case.ecc", "--drive", "case.iso", "--adaptive", "--workers", "3"], wrong_turns),
 }
 OFTEN = ["verify"] * 6 + ["fix"] * 6 + ["fix --cut"] * 2 + ["fix alone"] * 2 + ["scan", "read", "read on", "read on"]
+OFTEN += ["turns"] + ["turns on"] * 3
 
 
 # ---- the changes ----
@@ -325,7 +329,7 @@ class Fuzz:
         self.image = rng.choice(self.sample.damaged)
         command = rng.choice(OFTEN)
         self.words, judge = COMMANDS[command]
-        self.start = rng.choice(self.sample.damaged) if command == "read on" else None
+        self.start = rng.choice(self.sample.damaged) if command in ("read on", "turns on") else None
         how = rng.choice(CHANGES)
         data = bytes(how(rng, bytearray(self.sample.file)))
         names = {"case.ecc": data, "case.iso": self.image, "new.iso": self.start}

@@ -5,7 +5,9 @@ docs/COMMAND_LINE.md, but for the restoring itself.
 - A file that is to be opened isn't refused. Its header may record other numbers than the image's, and its checksums may
   be others, where the digest over them was made to fit. All that follows is then judged by what it records.
 - `verify`, `scan` and `read` put exactly the report that file, image and drive ask for, `read` leaves exactly that image,
-  and the status is 0 exactly where the report has nothing wrong. So `verify` ends with 0 only where the image has each
+  and the status is 0 exactly where the report has nothing wrong. `read --adaptive` asks as often as its turns make it, of
+  what it reads and keeps it leaves exactly that, and what is said of `fix` holds of the sectors that aren't good at its
+  end. So `verify` ends with 0 only where the image has each
   checksum and the digest that the file records: that it is the original is claimed only where these weren't changed.
 - `fix` restores or loses each erased sector. A restored sector has the recorded checksum, but for the last one where the
   header records another length of it than the original's: its block has the checksum, and of the block the image gets
@@ -224,6 +226,55 @@ class Reading:
         return marker(sector), self.altered
 
 
+class Turns(Reading):
+    """The same by turns, in which the sectors of a layer are spared once it can be restored."""
+
+    def __init__(self, ecc, drive, start=b""):
+        super().__init__(ecc, b"", start)
+        self.read, self.unreadable, self.altered = [], [], []
+        self.good = {sector: ecc.block(start, sector) for sector in self.kept}
+        self.lacking = {layer: len(them) for layer, them in ecc.by_layer(range(ecc.sectors)).items()}
+        self.unread = set(range(ecc.sectors)) - set(self.kept)
+        for sector in self.kept:
+            self.lacking[sector % ecc.layers] -= 1
+        for layer in range(ecc.layers):
+            self.spare(ecc, layer)
+        place = None
+        while self.unread:
+            if place not in self.unread:
+                place = self.turn(ecc)
+            block, found = self.ask(ecc, drive, place)
+            found.append(place)
+            self.unread.remove(place)
+            if found is not self.read:
+                place = None
+                continue
+            self.good[place] = block
+            self.lacking[place % ecc.layers] -= 1
+            self.spare(ecc, place % ecc.layers)
+            place += 1
+        asked = set(self.read + self.unreadable + self.altered)
+        self.passed = [it for it in range(ecc.sectors) if it not in asked and it not in set(self.kept)]
+        self.bad = [it for it in range(ecc.sectors) if it not in self.good]
+        blocks = [self.good.get(it, marker(it))[: ecc.bytes_of(it)] for it in range(ecc.sectors)]
+        self.image = b"".join(blocks) + start[ecc.length :]
+
+    def spare(self, ecc, layer):
+        if self.lacking[layer] <= ecc.parity:
+            self.unread -= set(range(layer, ecc.sectors, ecc.layers))
+
+    def turn(self, ecc):
+        """The middle of the first of the longest runs of unread sectors, or the start of the whole medium."""
+        best, first = (0, 0), 0
+        for sector in range(ecc.sectors + 1):
+            if sector in self.unread:
+                continue
+            if sector - first > best[1] - best[0]:
+                best = (first, sector)
+            first = sector + 1
+        return 0 if best == (0, ecc.sectors) else best[0] + (best[1] - best[0]) // 2
+
+
 def wrong_scan(case, ecc, status, lines):
     if case.image is None:
         return drive_failed(status, lines)
@@ -268,25 +319,51 @@ def wrong_read(case, ecc, status, lines):
     return compared(wanted, bool(lost), status, lines)
 
 
-def wrong_fix(case, ecc, status, lines):
-    before = case.image
-    if before is None:
-        return refused("rs01: no image", status, lines)
-    if status not in (0, 1) or lines[0] != "fixed case.iso" or not lines[-1].startswith("surplus bytes "):
-        return "it isn't done"
-    after = case.left("case.iso")
-    restored, lost = sectors_in(lines[1]), sectors_in(lines[2])
-    if lines[1] != listed("restored", restored) or lines[2] != listed("lost", lost):
-        return "a list isn't one"
-    missing, altered = ecc.erased(before)
-    erased = sorted(missing + altered)
-    if sorted(restored + lost) != erased:
-        return "erased are " + listed("", erased)
+def wrong_turns(case, ecc, status, lines):
+    if case.image is None:
+        return drive_failed(status, lines)
+    start = case.start or b""
+    reading = Turns(ecc, case.image, start)
+    wanted = [
+        "read new.iso",
+        "sectors %d" % ecc.sectors,
+        "asked %d" % len(reading.read + reading.unreadable + reading.altered),
+        "kept %d" % len(reading.kept),
+        "read %d" % len(reading.read),
+        listed("unreadable", sorted(reading.unreadable)),
+        listed("altered", sorted(reading.altered)),
+        listed("not asked", reading.passed),
+    ]
+    if lines[: len(wanted)] != wanted:
+        return "the report doesn't begin: " + " / ".join(wanted)
+    if lines[-1] != "surplus bytes %d" % max(0, len(start) - ecc.length):
+        return "the surplus is another"
+    restored, lost, strange, wrong = mended(ecc, lines[len(wanted) : -1], reading.bad)
+    if wrong:
+        return wrong
+    if status != bool(lost):
+        return "the status isn't %d" % bool(lost)
+    after = case.left("new.iso")
+    wrong = wrong_left(ecc, reading.image, after, set(restored), set(lost), False, untested(case, ecc))
+    return wrong or wrong_layers(case, ecc, after, reading.bad, strange)
+
+
+def mended(ecc, lines, erased):
+    """The restored and the lost sectors and the strange layers of a report, and what is wrong with them."""
+    restored, lost = sectors_in(lines[0]), sectors_in(lines[1])
     strange = {}
-    for line in lines[4:-1]:
+    for line in lines[3:]:
         words = line.split()
         strange[int(words[1].rstrip(":"))] = line
-    if lines[3] != "strange layers %d" % len(strange) or list(strange) != sorted(strange):
+    return restored, lost, strange, wrong_lists(ecc, lines, erased, restored, lost, strange)
+
+
+def wrong_lists(ecc, lines, erased, restored, lost, strange):
+    if lines[0] != listed("restored", restored) or lines[1] != listed("lost", lost):
+        return "a list isn't one"
+    if sorted(restored + lost) != erased:
+        return "erased are " + listed("", erased)
+    if lines[2] != "strange layers %d" % len(strange) or list(strange) != sorted(strange):
         return "the strange layers aren't counted"
     for layer, sectors in ecc.by_layer(erased).items():
         kept = [sector for sector in sectors if sector in set(restored)]
@@ -296,16 +373,34 @@ def wrong_fix(case, ecc, status, lines):
             return "layer %d is strange, and has too many erased sectors" % layer
         if not kept and len(sectors) <= ecc.parity and layer not in strange:
             return "layer %d wasn't restored" % layer
+
+
+def untested(case, ecc):
+    """The sector whose restored bytes may be fewer than those that its checksum is of, if any."""
+    made = case.sample.opened
+    return ecc.sectors - 1 if (made.sectors, made.last) != (ecc.sectors, ecc.last) else None
+
+
+def wrong_fix(case, ecc, status, lines):
+    before = case.image
+    if before is None:
+        return refused("rs01: no image", status, lines)
+    if status not in (0, 1) or lines[0] != "fixed case.iso" or not lines[-1].startswith("surplus bytes "):
+        return "it isn't done"
+    after = case.left("case.iso")
+    missing, altered = ecc.erased(before)
+    erased = sorted(missing + altered)
+    restored, lost, strange, wrong = mended(ecc, lines[1:-1], erased)
+    if wrong:
+        return wrong
     surplus = max(0, len(before) - ecc.length)
     is_cut = surplus > 0 and "--cut" in case.words
     if lines[-1] != "surplus bytes %d%s" % (surplus, ", cut" * is_cut):
         return "the surplus is %d" % surplus
     if status != bool(lost or strange):
         return "the status isn't %d" % bool(lost or strange)
-    made = case.sample.opened
-    untested = ecc.sectors - 1 if (made.sectors, made.last) != (ecc.sectors, ecc.last) else None
-    wrong = wrong_left(ecc, before, after, set(restored), set(lost), is_cut, untested)
-    return wrong or wrong_layers(case, ecc, erased, strange)
+    wrong = wrong_left(ecc, before, after, set(restored), set(lost), is_cut, untested(case, ecc))
+    return wrong or wrong_layers(case, ecc, after, erased, strange)
 
 
 def wrong_left(ecc, before, after, restored, lost, is_cut, untested):
@@ -324,7 +419,7 @@ def wrong_left(ecc, before, after, restored, lost, is_cut, untested):
             return "sector %d has changed" % sector
 
 
-def wrong_layers(case, ecc, erased, strange):
+def wrong_layers(case, ecc, after, erased, strange):
     """What is wrong with the layers that are told to be strange, or aren't, where it is known which are to be."""
     made = case.sample.opened
     same = ("sectors", "parity", "last", "sums")
@@ -347,7 +442,7 @@ def wrong_layers(case, ecc, erased, strange):
         if strange.get(layer) != wanted:
             return "of layer %d is wanted: %s" % (layer, wanted or "nothing")
         if not codewords and any(
-            ecc.block(case.left("case.iso"), sector) != made.block(case.sample.image, sector)
+            ecc.block(after, sector) != made.block(case.sample.image, sector)
             for sector in range(layer, ecc.sectors, ecc.layers)
         ):
             return "layer %d isn't the original" % layer
