@@ -10,10 +10,10 @@ lines of definitions. All of it is looked for in crates/*/src and crates/*/specs
 script with 1. The statuses and the lines of the faults are read there too. And each variant of a refusal, of a fault and
 of a stop in a crate that the program stands on is to have its row.
 
-A row is `Variant | when it comes | clauses | lines`. Clauses are separated by commas: a clause's name, or a relation that
-a clause cites, where `IsFix.works` is a part of a record. Before them a call's name and a colon may stand, and further
-calls follow a semicolon; else all calls of the table are meant. Lines are separated by two semicolons; a crate's name and
-a colon before a line say that it is another crate's.
+A row is `Variant | when it comes | clauses | lines`. Clauses are separated by commas: a clause's name, or a relation
+that a clause cites, where `IsFix.works` is a part of a record, or, of a clause without a name, some words of it. Before
+them a call's name and a colon may stand, and further calls follow a semicolon; else all calls of the table are meant.
+Lines are separated by two semicolons; a crate's name and a colon before a line say that it is another crate's.
 """
 
 import functools
@@ -45,12 +45,12 @@ or writing in the same call, which has its own cause; and where a run's status i
 
 STATUS_CALLS = {"run": "rs01_top", "run_one": "rs01_top"}
 STATUSES = """
-0 | exactly where the command was done and nothing is lost, strange, missing, altered or unreadable by its report | IsRun.answer | pub number : status ≡ 0 ;; fixed_status report = if (length report.lost == 0) && (length report.strange == 0) then 0 else 1 ;; if (length report.missing == 0) && ((length report.altered == 0) && is_match report.image) then 0 else 1 ;; scanned_status report = if (length report.unreadable == 0) && (length report.altered == 0) then 0 else 1 ;; read_status report = if length report.lost == 0 then 0 else 1 ;; shown_status repaired = if is_whole repaired.report then 0 else 1
+0 | exactly where the command was done and nothing is lost, strange, missing, altered or unreadable by its report | IsRun.answer | pub number : status ≡ 0 ;; fixed_status report = if (length report.lost == 0) && (length report.strange == 0) then 0 else 1 ;; if (length report.missing == 0) && ((length report.altered == 0) && is_match report.image) then 0 else 1 ;; scanned_status report = if (length report.unreadable == 0) && (length report.altered == 0) then 0 else 1 ;; read_status report = if (length report.lost == 0) && (length report.strange == 0) then 0 else 1 ;; shown_status repaired = if is_whole repaired.report then 0 else 1
 1 | exactly where the command was done and it is otherwise | IsRun.answer | Answers work old new put status = AnswersBy (work.refusal old) work.done old new put status
 2 | exactly where the words aren't in the grammar | IsRun.only_refused, IsRun.refused | work_by words (Err refused) = no_work (word_fault refused)
-3 | exactly where the files that are found refuse the work | IsRun.only_refused, IsRun.refused | pub first : work.refusal (outside_of old) ≡ Some why ;; refusal = λ found. fault_if create_fault (refusal_of (found.files image)); ;; refusal = λ found. fault_in fix_fault (answer_to image ecc cut found); ;; refusal = λ found. fault_in verify_fault (answer_to image ecc found); ;; refusal = λ found. fault_in read_fault (medium_in ecc found);
+3 | where files and drives are told, exactly where the files that are found refuse the work | IsRun.only_refused, IsRun.refused | pub first : work.refusal (outside_of old) ≡ Some why ;; refusal = λ found. fault_if create_fault (refusal_of (found.files image)); ;; refusal = λ found. fault_in fix_fault (answer_to image ecc cut found); ;; refusal = λ found. fault_in verify_fault (answer_to image ecc found); ;; refusal = λ found. fault_in read_fault (medium_in ecc found);
 4 | only where the desk's count of read or of write faults rose in this run; the line is that kind's | IsRun.cause, IsRun.quiet | (Rose old.desk.read_faults new.desk.read_faults × Tells old.out new.out (fault_line fault.ReadFault)) ;; (Rose old.desk.write_faults new.desk.write_faults × Tells old.out new.out (fault_line fault.WriteFault))
-5 | exactly where the drives refuse the work | IsRun.only_refused, IsRun.refused, IsRun.cause | pub drives : status ≡ 5 → RefusesDrives work old new ;; pub drives_are : HasDriveCause why old.rack new.rack
+5 | only where the drives refuse the work, and exactly there where files and drives are told | IsRun.only_refused, IsRun.refused, IsRun.cause | pub drives : status ≡ 5 → RefusesDrives work old new ;; pub drives_are : HasDriveCause work why old.rack new.rack
 6 | only where the output's count of faults rose in this run | IsRun.cause | pub output : status ≡ 6 → Rose old.out.faults new.out.faults
 7 | free: no clause ties it to a cause; some first bytes of its line were put | IsRun.cause | pub memory : status ≡ 7 → Begins old.out new.out (fault_line fault.OutOfMemory)
 """
@@ -155,7 +155,7 @@ OutOfMemory | {FREE} | IsFix.answer | pub left : MayStand (fix_answer (old ecc) 
         f"""
 Ecc | exactly where a file is given and opening it is refused so; never a fault or want of memory | read_linear: told, causes, untouched; read_adaptive: told, causes, untouched; read_adaptive_one: told, causes, untouched; scan: answer, causes | found_in_file (Err why) number = Err (refusal.Ecc why) ;; TellsFaults (Ecc why) = IsToldOfFile why ;; IsOfReading (Ecc why) = IsToldOfFile why
 Rack | exactly where the drives give no number of sectors, and the file that may be given is to be opened | read_linear: told, refused; read_adaptive: told, refused; read_adaptive_one: told, refused; scan: answer, asked | found_in_drives (Err why) = Err (refusal.Rack why) ;; found_in_file (Ok c) (Err why) = Err (refusal.Rack why) ;; RefusesBy (Err (Rack why)) old new = GivesNumber (Err why) old new × HasCause (Err why) old new
-DriveSize | exactly where no file is given, and the drives' number is 0 or above 16,777,215 | read_linear: told, refused; read_adaptive: told, refused; read_adaptive_one: told, refused; scan: answer, asked | if (n == 0) || nat_lt 16777215 n then Err (refusal.DriveSize n) ;; RefusesBy (Err (DriveSize n)) old new = GivesNumber (Ok n) old new × IsUnfit n
+DriveSize | exactly where no file is given, and the drives' number is 0 or above 16,777,215 | read_linear: told, refused, size; read_adaptive: told, refused, size; read_adaptive_one: told, refused, size; scan: answer, asked, size | if (n == 0) || nat_lt 16777215 n then Err (refusal.DriveSize n) ;; RefusesBy (Err (DriveSize n)) old new = GivesNumber (Ok n) old new × IsUnfit n
 ReadFault | {READ} | read_linear: works; read_adaptive: works; read_adaptive_one: works; scan: reads | reads_badly ReadFault = true ;; {READ_ROSE} ;; {READS_ROSE}
 WriteFault | {WRITE}, and the medium isn't refused; never of a scan | read_linear: works, told; read_adaptive: works, told; read_adaptive_one: works, told; scan: causes | writes_badly WriteFault = true ;; {WRITE_ROSE} ;; pub write_fault_last : IsTrue (writes_badly why) → IsOk (found given (views_of old)) ;; IsOfReading WriteFault = ⊥
 OutOfMemory | {FREE} | read_linear: told; read_adaptive: told; read_adaptive_one: told; scan: answer | IsOfMedium OutOfMemory = ⊥ ;; pub left : IsUntouched old new before file ⊎ IsOkAnd (found given (views_of old)) IsLeft
@@ -318,6 +318,21 @@ Over | exactly where it isn't posted, and the window closed | answer | if m.clos
     ),
 ]
 
+# Where a call gives nothing. Each row names its own call.
+NONES = """
+rs01_layers::sector_at | exactly where the place lies behind the last sector | result ≡ sector_at | sector_at n r layer place =
+rs01_intervals::longest | exactly where no flag is set | value | NoneMeansClear : Type 0
+rs01_states::first_unread_from | exactly where no sector from this one on is unread | first | next_unread states from = find (λ s. is_unread (state_of states s)) (range_with_len from (length states - from))
+rs01_states::mark_good | exactly where the sector's layer doesn't come within its bound by it | came | if is_within shape l after && not (is_within shape l before) then Some l else None
+rs01_window::taken | exactly where the worker has no input | taken, some | input_of m w = input_at m (slice_get m.workers w)
+rs01_window::result | exactly where nothing was given for the slot | given, all | given_for m slot = given_in (slice_get m.results slot)
+rs01_table::take | exactly where the word that this call read last says that the input isn't posted, and the window closed | over, got | × SawUnposted worker ticket true
+rs01_rack::asked_at | where the drive tells, exactly where it was asked for fewer sectors; always where it doesn't tell | OfDrive | pub told : IsTrue drive.tells → sector ≡ slice_get drive.view.asked i ;; pub untold : IsTrue (not drive.tells) → IsNone sector
+rs01_words::get | exactly where there are no more places | result ≡ slice_get | ghost Value = { List ℕ };
+rs01_fakes::file | exactly where the name isn't there | option_copied result ≡ files_of | option_copied result ≡ files_of self.now name.now
+rs01_outside::size | where the desk tells, exactly where the name isn't there | size | SizeIs files name size = size ≡ option_map length (files name)
+"""
+
 # Each enum with such a name is to have a table.
 NEEDED = re.compile(r"pub enum (\w*(?:Refusal|Refused|Fault|Stop))\b")
 
@@ -392,8 +407,10 @@ def contracts_of(crate, call):
 
 def check_clause(crate, call, clause):
     relation, _, part = clause.partition(".")
-    word = rf"ensures {relation} \{{" if relation[0].islower() else rf"\b{relation}\b"
-    if not any(re.search(word, it) for it in contracts_of(crate, call)):
+    # A clause without a name is told by a relation that it cites, or by some words of it.
+    is_name = relation[0].islower() and " " not in relation
+    word = rf"ensures {relation} \{{" if is_name else rf"\b{re.escape(relation)}\b"
+    if not any(re.search(word, squeezed(it)) for it in contracts_of(crate, call)):
         raise Wrong(f"{call} of {crate} has no clause {relation}")
     if part:
         specs = "\n".join(files_of(crate, "specs", ".antt").values())
@@ -453,6 +470,17 @@ def row_of(row, calls, crate):
 def rows_in(text, calls, crate):
     rows = [row_of(row, calls, crate) for row in text.strip().split("\n")]
     return [it for it, _ in rows], [it for _, it in rows]
+
+
+def nones():
+    """A row for each call that may give nothing."""
+    rows = []
+    for row in NONES.strip().split("\n"):
+        name, rest = row.split(" | ", 1)
+        crate, call = name.split("::")
+        rows.append(row_of(f"{name} | {rest}", {call: crate}, crate)[1])
+    intro = ["## Where a call gives `None`", "", COLUMNS[0].replace("Answer", "Call"), COLUMNS[1]]
+    return [*intro, *rows, ""]
 
 
 def calls_line(calls):
@@ -543,6 +571,7 @@ def page():
             for short in NEEDED.findall(text):
                 if f"{crate}::{short}" not in seen:
                     raise Wrong(f"{crate}::{short} has no table")
+    parts += nones()
     return "\n".join(parts)
 
 
