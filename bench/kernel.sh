@@ -9,48 +9,10 @@
 # made in a folder of its own, and the program is proved, built and run there. The first run takes some minutes, since
 # the crates below are proved first; what the toolchain finds proved on this machine it takes over. The copy is deleted
 # at the end, or kept as FOLDER/kernel_bench where a folder is named, so that the next run with it takes seconds.
-top=$(cd "$(dirname "$0")/.." && pwd -P) || exit 1
+. "$(dirname "$0")/proved.sh"
 
-if ! command -v rt > /dev/null 2>&1; then
-    echo "The toolchain's rt isn't on the path."
-    exit 0
-fi
-
-if [ -n "$1" ]; then
-    mkdir -p "$1/kernel_bench" || exit 1
-    folder=$(cd "$1/kernel_bench" && pwd -P) || exit 1
-    if [ "$folder" = "$top" ]; then
-        echo "The copy would overwrite the repository: name another folder."
-        exit 1
-    fi
-else
-    folder=$(mktemp -d) || exit 1
-    trap 'rm -rf "$folder"' EXIT
-    trap 'exit 1' INT TERM
-fi
-
-# Copies what a proof reads of a crate, and leaves what the copy has of earlier proofs.
-copy_crate() {
-    copy=$folder/crates/${1##*/}
-    mkdir -p "$copy" || return 1
-    for part in src specs proofs; do
-        rm -rf "${copy:?}/$part" || return 1
-        [ ! -d "$1/$part" ] || cp -R "$1/$part" "$copy/$part" || return 1
-    done
-}
-
-for crate in "$top"/crates/*; do
-    copy_crate "$crate" || exit 1
-done
-mkdir -p "$folder/crates/kernel_bench/src" || exit 1
-cp "$top/bench/kernel/main.rt.txt" "$folder/crates/kernel_bench/src/main.rt" || exit 1
-{
-    cat "$top/crates.txt"
-    echo
-    echo "kernel_bench: rs01_encode rs01_erase rs01_layers rs01_sums md5"
-} > "$folder/crates.txt" || exit 1
-
-cd "$folder/crates/kernel_bench" || exit 1
+take_folder kernel_bench "$1"
+add_program kernel_bench "$top/bench/kernel/main.rt.txt" "rs01_encode rs01_erase rs01_layers rs01_sums md5"
 if ! rt run > "$folder/times" 2> "$folder/log"; then
     tail -n 20 "$folder/log"
     echo "the program failed"

@@ -11,49 +11,15 @@
 # crates below are proved first; what the toolchain finds proved on this machine it takes over. The copy is deleted at
 # the end, or kept as FOLDER/planning_bench where a folder is named, so that the next run with it takes seconds.
 # PROGRAM names a program that was built of it already.
-top=$(cd "$(dirname "$0")/.." && pwd -P) || exit 1
+. "$(dirname "$0")/proved.sh"
 sectors=2298496
 
-if [ -n "$1" ]; then
-    mkdir -p "$1/planning_bench" || exit 1
-    folder=$(cd "$1/planning_bench" && pwd -P) || exit 1
-    if [ "$folder" = "$top" ]; then
-        echo "The copy would overwrite the repository: name another folder."
-        exit 1
-    fi
-else
-    folder=$(mktemp -d) || exit 1
-    trap 'rm -rf "$folder"' EXIT
-    trap 'exit 1' INT TERM
-fi
-
-# Copies what a proof reads of a crate, and leaves what the copy has of earlier proofs.
-copy_crate() {
-    copy=$folder/crates/${1##*/}
-    mkdir -p "$copy" || return 1
-    for part in src specs proofs; do
-        rm -rf "${copy:?}/$part" || return 1
-        [ ! -d "$1/$part" ] || cp -R "$1/$part" "$copy/$part" || return 1
-    done
-}
+take_folder planning_bench "$1"
 
 # Proves and builds the program, and names it.
 build() {
-    if ! command -v rt > /dev/null 2>&1; then
-        echo "The toolchain's rt isn't on the path."
-        exit 0
-    fi
-    for crate in "$top"/crates/*; do
-        copy_crate "$crate" || exit 1
-    done
-    mkdir -p "$folder/crates/planning_bench/src" || exit 1
-    cp "$top/bench/planning/main.rt.txt" "$folder/crates/planning_bench/src/main.rt" || exit 1
-    {
-        cat "$top/crates.txt"
-        echo
-        echo "planning_bench: rs01_adaptive rs01_layers rs01_linear rs01_outside rs01_rack rs01_reader"
-    } > "$folder/crates.txt" || exit 1
-    cd "$folder/crates/planning_bench" || exit 1
+    add_program planning_bench "$top/bench/planning/main.rt.txt" \
+        "rs01_adaptive rs01_layers rs01_linear rs01_outside rs01_rack rs01_reader"
     if ! rt run -- held 1 > "$folder/log" 2>&1; then
         tail -n 20 "$folder/log"
         echo "the program failed"
