@@ -23,6 +23,7 @@ use Rattle.rs01_linear.specs.declared.fate.Fate.TheVariants.{LeftOut}
 use Rattle.rs01_linear.specs.declared.telling.Told.TheVariants as told
 use Rattle.rs01_linear.specs.Marking.{place}
 use Rattle.rs01_linear.proofs.LaidLemmas.{Fills, Sized, laid, laid_part, place_more, place_of, width}
+use Rattle.rs01_turns.specs.Leads.{AllAskedOn}
 use Rattle.rs01_turns.specs.Moments.{Moment, bytes_at, image_at, known_at, length_at, rest_of}
 use Rattle.rs01_turns.specs.Turns.{Reading, Terms}
 use Rattle.rs01_turns.proofs.Asking.{rest-grows}
@@ -212,14 +213,17 @@ byte-of-three w m k sized fills way =
 
 -- the drives were asked for some first sectors, and the image file is on the way
 pub is_left_at :
-    (w : Whole) (m : Moment) (before : Option (List ℕ)) → Sized (known_in w) → Fills (known_in w) (sector_left w) → IsOnTheWay w m → AllTell m.rack → image_len (known_in w) ≤ length (image_at m)
+    (w : Whole) (m : Moment) (before : Option (List ℕ)) → Sized (known_in w) → Fills (known_in w) (sector_left w) → IsOnTheWay w m → AllAskedOn w.views (views_of m.rack) → AllTell m.rack → image_len (known_in w) ≤ length (image_at m)
     → IsLeftAt (views_of m.rack) before (m.desk.files m.setting.image) w
 unfolding end_in
-is_left_at w m before sized fills way tell long =
+is_left_at w m before sized fills way on tell long =
     let part_of = where-stopped m m (look-leads m m.first) tell in
     record {
       number = part_of.number ∙ ap (λ (r : Reading). length r.views) way.end_is ∙ (ends-all (terms_in w) (start_in w)).drives;
-      asked = λ k one other was is. part_of.asked k one other was (ap (λ (r : Reading). slice_get r.views k) way.end_is ∙ is);
+      asked = λ k first one other start was is.
+          let grew = on k first one start was in
+          let rest = part_of.asked k one one other was was (ap (λ (r : Reading). slice_get r.views k) way.end_is ∙ is) in
+          record { done = grew.0; more = rest.more; sofar_is = grew.1; all_is = rest.all_is };
       file_is = inr (subst (λ (o : Option (List ℕ)). IsSomeAnd o (IsBetween w)) (sym (image_there (known_in w) (m.desk.files m.setting.image) sized long))
-          (record { longer = way.longer; bytes = λ k below. byte-of-three w m k sized fills way }));
+          (record { longer = way.longer; surplus = way.surplus; bytes = λ k below. byte-of-three w m k sized fills way }));
     }

@@ -364,6 +364,7 @@ pub spares_on : (known : Known) (y old new : List ℕ) → 1 ≤ known.sectors �
     → ((s : ℕ) → s < known.sectors → is_erased known y s ≡ false → bytes_in known new s ≡ bytes_in known old s) → Spares known y old → Spares known y new
 spares_on known y old new some few long surplus same spares = record {
   longer = omega (arith, long, spares.longer);
+  surplus = surplus ∙ spares.surplus;
   same = λ k below stays.
       ⊎_elim
       (λ past. past_same new old (image_len known) k surplus past)

@@ -1,6 +1,6 @@
 -- What a reading by turns leaves and tells, from the steps that it is made of: opening the medium, getting the image file
 -- ready, and reading into that. It is the same however its windows are worked.
-use Rattle.std.proofs.Common.{◌≡◌, ℕ, ◌≤◌, ◌∙◌, ap, inl, sym, subst, List}
+use Rattle.std.proofs.Common.{◌≡◌, ℕ, ◌<◌, ◌≤◌, ◌^◌, ◌∙◌, ap, inl, sym, subst, List}
 use Rattle.std.proofs.lemmas.Result.{err_from_is_err_and}
 use Rattle.std.specs.Prelude.{◌≢◌, Bool, IsErrAnd, IsTrue, Option, Some, Result, Ok, Err, false}
 use Rattle.std.specs.Borrow.{Bor}
@@ -18,6 +18,7 @@ use Rattle.rs01_linear.specs.declared.medium.Medium.{Medium}
 use Rattle.rs01_linear.specs.declared.prepared.Prepared.{Prepared}
 use Rattle.rs01_linear.specs.declared.refusal.ReadRefusal.{ReadRefusal}
 use Rattle.rs01_linear.specs.declared.refusal.ReadRefusal.TheVariants.{OutOfMemory}
+use Rattle.rs01_linear.proofs.AnswerLemmas.{plain_numbered, still_lasts}
 use Rattle.rs01_linear.proofs.EndLemmas.{ends_unopened}
 use Rattle.rs01_linear.proofs.LastingLemmas.{told_before}
 use Rattle.rs01_linear.proofs.MarkLemmas.{sized_by}
@@ -74,10 +75,11 @@ told_unprepared ecc tries name medium start one desk old new reading writing res
 pub stays_unprepared :
     (ecc : Option (Bor (List ℕ))) (name : List ℕ) (medium : Medium) (start one desk : DeskState) (old new : RackState) (reading writing : Bool)
     → WorksOn name one desk reading writing → OnlyReads start one false → TellsFound start ecc (Ok medium) old new → TellsKnown start ecc (Ok medium)
-    → TellsReady medium name one desk (Err OutOfMemory)
+    → IsGiven ecc medium.ecc → Finds (Ok medium) old new → old.asks < 2 ^ 128 → TellsReady medium name one desk (Err OutOfMemory)
     → StaysGood start desk ecc name old new
-stays_unprepared ecc name medium start one desk old new reading writing works reads found known left = λ t.
-    spared_unprepared _ medium _ _ _ _ _ (same_image start one false name reads t) (left (still_tells start one false reads t)) (known t) (found t)
+stays_unprepared ecc name medium start one desk old new reading writing works reads found known given finds small left = λ t.
+    spared_unprepared _ medium _ _ _ _ _ (same_image start one false name reads t) (left (still_tells start one false reads t)) (known t)
+    (plain_numbered start ecc medium old new new given finds (still_lasts medium old new small finds)) (found t)
 
 -- it was got ready, and the error correction file is still the same
 kept :
@@ -121,9 +123,9 @@ pub stays_read :
     (setup : Setup) (prepared : Prepared) (start one two desk : DeskState) (old mid new : RackState) (result : Result ReadReport ReadRefusal)
     → TellsPrepared setup prepared two desk result mid new → RackLasts mid new
     → OnlyReads start one false → TellsFound start setup.ecc (Ok setup.medium.now) old mid → TellsKnown start setup.ecc (Ok setup.medium.now)
-    → WorksBy setup.image.now one two (Ok prepared) → TellsReady setup.medium.now setup.image.now one two (Ok prepared)
+    → IsGiven setup.ecc setup.medium.now.ecc → Finds (Ok setup.medium.now) old mid → WorksBy setup.image.now one two (Ok prepared) → TellsReady setup.medium.now setup.image.now one two (Ok prepared)
     → StaysGood start desk setup.ecc setup.image.now old new
-stays_read setup prepared start one two desk old mid new result ends lasts reads found known works ready = λ t.
+stays_read setup prepared start one two desk old mid new result ends lasts reads found known given finds works ready = λ t.
     let t1 = still_tells start one false reads t in
     spared _ setup.medium.now _ _ _ _ _ (same_image start one false setup.image.now reads t) (ends.stays _ (subst IsTrue (sym works.tells) t1) (ready t1))
-    (known t) (λ tell. found t (told_before mid new lasts tell))
+    (known t) (plain_numbered start setup.ecc setup.medium.now old mid new given finds lasts) (λ tell. found t (told_before mid new lasts tell))

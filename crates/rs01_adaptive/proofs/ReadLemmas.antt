@@ -20,6 +20,7 @@ use Rattle.rs01_linear.proofs.LaidLemmas.{Fills, Sized}
 use Rattle.rs01_linear.proofs.MarkLemmas.{sized_by}
 use Rattle.rs01_turns.specs.Moments.{asks_at_end, image_at}
 use Rattle.rs01_turns.specs.Turns.{Reading}
+use Rattle.rs01_turns.proofs.Leading.{same-drives}
 use Rattle.rs01_reader.specs.Courses.{CourseSeen}
 use Rattle.rs01_reader.specs.Settled.{IsShapeOf as IsShapeOfFile}
 use Rattle.rs01_reader.specs.declared.setup.Setup.{Setup}
@@ -116,7 +117,7 @@ reads_somewhere setup f shape before prepared rack rack' desk desk' noted noted'
     record {
       shape = shape;
       shape_is = (has-file setup f shape before rack desk found shape_is).shape;
-      fact = is_left_at w g.moment before (sized-by setup f found.known_is) fills (on_the_way w start g st) tell
+      fact = is_left_at w g.moment before (sized-by setup f found.known_is) fills (on_the_way w start g st) (along.drives.asked tell) tell
           (subst (λ (k : Known). image_len k ≤ length (image_at g.moment)) (sym found.known_is) ((along.sound sound).ready.places (subst IsTrue (sym along.desk.tells) t)));
     }
 
@@ -133,6 +134,6 @@ reads_nothing setup f shape before prepared rack desk why tell found ready shape
     record {
       shape = shape;
       shape_is = (has-file setup f shape before rack desk found shape_is).shape;
-      fact = is_left_at w m before (sized-by setup f found.known_is) fills (starts_on_the_way setup f shape before prepared rack desk found.known_is ready) tell
+      fact = is_left_at w m before (sized-by setup f found.known_is) fills (starts_on_the_way setup f shape before prepared rack desk found.known_is ready) ((same-drives m m refl refl).asked tell) tell
           (subst (λ (k : Known). image_len k ≤ length (image_at m)) (sym found.known_is) (prepared_long (known_of setup.medium.now) before (desk.files setup.image.now) prepared sized ready));
     }

@@ -31,7 +31,7 @@ pub record Gathered (s : Sight) (worked : Worked) : Type 0 where
   pub fit : All (Fits s.moment) worked.inputs
   pub values : worked.outs ≡ map correct worked.inputs
   pub last : IsTrue worked.over → IsOver s
-  pub full : IsTrue (not worked.over) → (length worked.inputs ≡ 64) × MayGoOn s
+  pub full : IsTrue (not worked.over) → (0 < length worked.inputs) × MayGoOn s
 
 sound_of : (s : Sight) (worked : Worked) → Gathered s worked → IsSound s
 sound_of s worked is = ⊎_elim (λ over. (is.last over).sound) (λ more. (is.full (ap not more)).1.sound) (cases_Bool worked.over)
@@ -113,7 +113,7 @@ taken_fewer setup course rack desk desk' noted noted' window worked is more =
     let sound = (is.full more).1.sound in
     let few : length course.given ≤ layer_count course.shape = once_few course.given (layer_count course.shape) sound.once.once sound.once.there in
     let size : length worked.inputs ≡ window = window_is (sight_of setup course rack desk noted window) worked.inputs sound.window_fits is.all in
-    let full : length worked.inputs ≡ 64 = (is.full more).0 in
+    let full : 0 < length worked.inputs = (is.full more).0 in
     let fits : window ≤ length course.given = sound.window_fits in
     omega (arith, few, size, full, fits)
 
@@ -157,7 +157,7 @@ since_is reads writes kept_reads kept_writes desk o p one two three is =
     (subst (λ (n : ℕ). FaultSince kept_reads n desk o) two (subst (λ (n : ℕ). FaultSince n writes desk o) one is))
 
 pub gather : (s : Sight) (worked : Worked) → window_layers s ≡ layers_in worked.inputs → All (Fits s.moment) worked.inputs → worked.outs ≡ map correct worked.inputs → (IsTrue worked.over → IsOver s)
-    → (IsTrue (not worked.over) → (length worked.inputs ≡ 64) × MayGoOn s) → Gathered s worked
+    → (IsTrue (not worked.over) → (0 < length worked.inputs) × MayGoOn s) → Gathered s worked
 gather s worked all fit values last full = record { all = all; fit = fit; values = values; last = last; full = full }
 
 pub settles_as : (setup : Setup) (noted noted' : Noted) (desk desk' : DeskState) (worked : Worked) (r s : Result (Unit {0}) Stop) → r ≡ s → SettlesAll setup noted noted' desk desk' worked r → SettlesAll setup noted noted' desk desk' worked s

@@ -4,7 +4,7 @@ use Rattle.std.specs.Prelude.{◌⊎◌, ◌≢◌, if◌then◌else◌, Bool, I
 use Rattle.std.specs.Borrow.{Bor}
 use Rattle.std.specs.Option.{ForSome, option_map, unwrap_or}
 use Rattle.std.proofs.lemmas.Bool.{cases_lt}
-use Rattle.std.proofs.lemmas.List.{get_or-append_right, get_or-drop, get_or-take, get_or_append_left, length-append, length-drop, length-take, length-take-le}
+use Rattle.std.proofs.lemmas.List.{append-nil, get_or-append_right, get_or-drop, get_or-take, get_or_append_left, length-append, length-drop, length-take, length-take-le}
 use Rattle.rs01_layers.specs.Layout.{file_size}
 use Rattle.rs01_layers.specs.declared.shape.Shape.{Shape}
 use Rattle.rs01_outside.specs.DeskState.{DeskState}
@@ -29,7 +29,7 @@ use Rattle.rs01_linear.specs.declared.refusal.ReadRefusal.TheVariants.{DriveSize
 use Rattle.rs01_linear.proofs.LaidLemmas.{Sized}
 use Rattle.rs01_linear.proofs.MarkLemmas.{sized_by}
 use Rattle.rs01_linear.proofs.StayLemmas.{spares_marked}
-use Rattle.rs01_turns.proofs.Times.{asks-few}
+use Rattle.rs01_turns.proofs.Times.{asks-few, same-drive}
 use Rattle.rs01_reader.specs.Settled as reader
 use Rattle.rs01_reader.specs.Settled.{IsNamed}
 use Rattle.rs01_reader.specs.declared.setup.Setup.{Setup}
@@ -86,6 +86,7 @@ mixed_byte n one other k below longer =
 between : (w : Whole) (n : ℕ) → Sized (known_in w) → IsBetween w (mixed n (marked (known_in w) w.image) w.image)
 between w n sized = record {
   longer = (spares_marked (known_in w) w.image n sized).longer;
+  surplus = (spares_marked (known_in w) w.image n sized).surplus;
   bytes = λ k below. ⊎_elim (λ same. inl same) (λ one. inr (inl one)) (mixed_byte n (marked (known_in w) w.image) w.image k below (marked_longer (known_in w) w.image sized));
 }
 
@@ -95,9 +96,15 @@ left_here : (w : Whole) (views : List DriveView) (before file : Option (List ℕ
 unfolding end_in
 left_here w views before file sized same left = record {
   number = ap length (sym same);
-  asked = λ k one other was is.
-      let on = asks-few (terms_in w) (start_in w) k one other (ap (λ (vs : List DriveView). slice_get vs k) same ∙ was) is in
-      (on.more, on.asked);
+  asked = λ k first one other start was is.
+      let here = ap (λ (vs : List DriveView). slice_get vs k) same ∙ was in
+      let on = asks-few (terms_in w) (start_in w) k one other here is in
+      record {
+        done = [];
+        more = on.more;
+        sofar_is = ap (λ (v : DriveView). v.asked) (same-drive w.views k first one start here) ∙ sym (append-nil first.asked);
+        all_is = on.asked;
+      };
   file_is = elim left [
     | inl kept ↦ inl kept
     | inr mix ↦ inr (subst (λ (o : Option (List ℕ)). IsSomeAnd o (IsBetween w)) (sym mix.1) (between w mix.0 sized))

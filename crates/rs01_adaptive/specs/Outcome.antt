@@ -1,15 +1,16 @@
 -- What a reading by turns into a named image leaves and answers. The image file before is empty where it wasn't there.
-use Rattle.std.specs.Prelude.{ℕ, ◌≡◌, ◌<◌, ◌≤◌, ◌⊎◌, IsSomeAnd, IsTrue, List, [], Option, Some, Result, length, slice_get, slice_index}
+use Rattle.std.specs.Prelude.{ℕ, ◌≡◌, ◌<◌, ◌≤◌, ◌⊎◌, IsSomeAnd, IsTrue, List, [], Option, Some, Result, drop, length, slice_index}
 use Rattle.std.specs.Borrow.{Bor}
 use Rattle.std.specs.Option.{unwrap_or}
 use Rattle.rs01_layers.specs.declared.shape.Shape.{Shape}
 use Rattle.rs01_outside.specs.DeskState.{DeskState}
 use Rattle.rs01_outside.specs.DriveView.{DriveView}
 use Rattle.rs01_rack.specs.Rack.{AllTell, RackState, views_of}
+use Rattle.rs01_ecchead.specs.Erased.{image_len}
 use Rattle.rs01_report.specs.declared.reports.ReadReport.{ReadReport}
 use Rattle.rs01_linear.specs.Lasting.{CountsAsks}
 use Rattle.rs01_linear.specs.Left.{marked}
-use Rattle.rs01_turns.specs.Stops.{AskedSome}
+use Rattle.rs01_turns.specs.Stops.{AllAskedPart}
 use Rattle.rs01_linear.specs.Medium.{Found, file_given}
 use Rattle.rs01_linear.specs.Outcome.{ReadsBy, asked_since}
 use Rattle.rs01_linear.specs.declared.refusal.ReadRefusal.{ReadRefusal}
@@ -33,24 +34,21 @@ pub record IsReadInto (old new : RackState) (file : Option (List ℕ)) (told : R
   -- the rack's count of asks rose by as many as the drives' lists of asks show more
   pub asks : CountsAsks old new
 
--- each drive was asked for some first ones of the sectors that it is asked for to the end
-abbrev pub AllAskedSome : (sofar all : List DriveView) → Type 0
-AllAskedSome sofar all = (k : ℕ) (one other : DriveView) → slice_get sofar k ≡ Some one → slice_get all k ≡ Some other → AskedSome one other
-
 -- each byte is the old one, or that of the marked file, or that of the file that is left at the end
 abbrev pub IsOfThree : (old marked left file : List ℕ) → ℕ → Type 0
 IsOfThree old marked left file k =
     (slice_index file k ≡ slice_index old k) ⊎ ((slice_index file k ≡ slice_index marked k) ⊎ (slice_index file k ≡ slice_index left k))
 
--- a file that isn't shorter than the old one and is made of those
+-- a file that isn't shorter than the old one, is made of those, and has the old one's bytes behind the image and no others
 pub record IsBetween (w : Whole) (file : List ℕ) : Type 0 where
   pub longer : length w.image ≤ length file
+  pub surplus : drop (image_len (known_in w)) file ≡ drop (image_len (known_in w)) w.image
   pub bytes : (k : ℕ) → k < length file → IsOfThree w.image (marked (known_in w) w.image) (image_left w) file k
 
--- it wasn't: the drives were asked for some first sectors, and the image file is as it was or on the way
+-- it wasn't: from the start on the drives were asked for some first sectors, and the image file is as it was or on the way
 pub record IsLeftAt (drives : List DriveView) (before file : Option (List ℕ)) (w : Whole) : Type 0 where
   pub number : length drives ≡ length w.views
-  pub asked : AllAskedSome drives (end_in w).views
+  pub asked : AllAskedPart w.views drives (end_in w).views
   pub file_is : (file ≡ before) ⊎ IsSomeAnd file (IsBetween w)
 
 -- what a reading leaves and answers, where the desk and the drives tell

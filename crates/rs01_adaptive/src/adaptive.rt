@@ -1,10 +1,11 @@
 //! Reading a medium into an image by turns, on one thread and by several.
 ghost use Rattle.std.specs.Prelude.{◌≢◌, ◌<◌, ◌≤◌, IfErr};
 ghost use Rattle.std.specs.Option.{ForSome};
+ghost use Rattle.rs01_linear.specs.Medium.{AnswersNamed};
 ghost use Rattle.rs01_linear.specs.Outcome.{RefusesBy, UnreadableRose};
 ghost use Rattle.rs01_linear.specs.Racks.{OnRack, seen_by};
 ghost use Rattle.rs01_linear.specs.Lasting.{RackLasts};
-ghost use Rattle.rs01_linear.specs.Refusal.{LeavesAll, RefusesSizeAlone, TellsFaults, WorksBy};
+ghost use Rattle.rs01_linear.specs.Refusal.{LeavesAll, TellsFaults, WorksBy};
 ghost use Rattle.rs01_linear.specs.Report.{IsFresh};
 ghost use Rattle.rs01_linear.specs.Spared.{StaysGood};
 ghost use Rattle.rs01_adaptive.specs.ComesBack.{BringsBack};
@@ -111,12 +112,13 @@ fn read_prepared<R: Threads + Wait + Sync, D: Desk, G: Gate>(
 /// and restored sectors are put in place. Bytes past the image stay, and so do all other files.
 ///
 /// The refusals of the file and of the drives come first, in this order, and nothing has changed then. After a fault or
-/// want of memory each drive was asked for some first ones of its sectors, and each byte of the image file is the one
-/// before, that of the marked file, or that of the file that the whole reading leaves.
+/// want of memory each drive was asked, from the start of the call on, for some first ones of its sectors, and each byte of
+/// the image file is the one before, that of the marked file, or that of the file that the whole reading leaves.
 ///
 /// Whatever the drives give and however it ends, the image file isn't shorter than before, and the sectors that it had
-/// good and the bytes past the image are the same. Each sector that is told to be unreadable raised the count of faults of
-/// each drive.
+/// good and the bytes past the image are the same, and no others come behind these. Each sector that is told to be
+/// unreadable raised the count of faults of each drive, and a report is only given where the drives gave a number of
+/// sectors. Where the desk tells its files, the error correction file is refused or opened as its bytes say.
 ///
 /// Where the error correction file is intact, and all that passes for a sector in the image file and in the drives is the
 /// original's, every layer that is within its bound in the end is the original's again.
@@ -133,10 +135,10 @@ pub fn read_adaptive_one<D: Desk>(
     ensures works { WorksBy image.now (D.state desk.old) (D.state desk.new) result }
     ensures lasts { OnRack ⟦<dyn Drive as Drive>⟧ RackLasts rack.old rack.new }
     ensures causes { IfErr result TellsFaults }
-    ensures size { IfErr result (RefusesSizeAlone ecc.entry) }
     ensures untouched { IfErr result (LeavesAll (D.state desk.old) (D.state desk.new)) }
     ensures unreadable { OnRack ⟦<dyn Drive as Drive>⟧ (UnreadableRose result) rack.old rack.new }
     ensures refused { OnRack ⟦<dyn Drive as Drive>⟧ (RefusesBy result) rack.old rack.new }
+    ensures answers { AnswersNamed (D.state desk.old) ecc.entry result }
     ensures told { OnRack ⟦<dyn Drive as Drive>⟧ (TellsReading (D.state desk.old) (D.state desk.new)
         ecc.entry tries image.now result) rack.old rack.new }
     ensures comes_back { OnRack ⟦<dyn Drive as Drive>⟧ (BringsBack (D.state desk.old)
@@ -177,10 +179,10 @@ pub fn read_adaptive<R: Threads + Wait + Sync, D: Desk, G: Gate>(
     ensures works { WorksBy image.now (D.state desk.old) (D.state desk.new) result }
     ensures lasts { OnRack ⟦<dyn Drive as Drive>⟧ RackLasts rack.old rack.new }
     ensures causes { IfErr result TellsFaults }
-    ensures size { IfErr result (RefusesSizeAlone ecc.entry) }
     ensures untouched { IfErr result (LeavesAll (D.state desk.old) (D.state desk.new)) }
     ensures unreadable { OnRack ⟦<dyn Drive as Drive>⟧ (UnreadableRose result) rack.old rack.new }
     ensures refused { OnRack ⟦<dyn Drive as Drive>⟧ (RefusesBy result) rack.old rack.new }
+    ensures answers { AnswersNamed (D.state desk.old) ecc.entry result }
     ensures told { OnRack ⟦<dyn Drive as Drive>⟧ (TellsReading (D.state desk.old) (D.state desk.new)
         ecc.entry tries image.now result) rack.old rack.new }
     ensures comes_back { OnRack ⟦<dyn Drive as Drive>⟧ (BringsBack (D.state desk.old)

@@ -18,3 +18,4 @@ pub mod TellLemmas
 pub mod RoseLemmas
 mod SpareLemmas
 pub mod StayLemmas
+pub mod AnswerLemmas

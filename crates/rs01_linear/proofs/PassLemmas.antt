@@ -45,7 +45,7 @@ skip_failed medium s jump tries block name desk desk' was taken is read result c
           };
       run = tt;
       stays = λ y t guards.
-          spared_run known y s taken desk.files desk'.files name (Err cause) has'
+          spared_run known y s taken desk.files desk'.files name (Err cause) sized (omega (arith, below)) has'
           (guards_same known y s was taken (desk.files name) told.first_is (told.bad y guards.guards.erased).later guards) (put t);
     })
 
@@ -74,7 +74,7 @@ skip_done medium s jump tries block name desk desk' was taken put is read u old 
       stays = λ y t guards.
           let later = (told.bad y guards.guards.erased).later in
           guards_empty known y (s + 1) is (desk'.files name) first (subst (AsksBad known y) (sym (fates' ∙ fates)) later)
-          (spared_run known y s taken desk.files desk'.files name (Ok u) has' (guards_same known y s was taken (desk.files name) told.first_is later guards) (written t));
+          (spared_run known y s taken desk.files desk'.files name (Ok u) sized (omega (arith, below)) has' (guards_same known y s was taken (desk.files name) told.first_is later guards) (written t));
     }
 
 -- a sector was read, and its bytes stand behind those of the run
@@ -146,7 +146,7 @@ full_failed medium s jump tries name desk desk' was run is result cause why old 
                 run_failed (known_of medium) (manner_of jump tries) y views (s + 1) run desk.files desk'.files name cause (sized_by medium.extent _) (omega (arith, below)) so.has stood.runs (put t);
           };
       run = tt;
-      stays = λ y t guards. spared_run (known_of medium) y (s + 1) run desk.files desk'.files name (Err cause) so.has (so.stays y guards) (put t);
+      stays = λ y t guards. spared_run (known_of medium) y (s + 1) run desk.files desk'.files name (Err cause) (sized_by medium.extent _) (omega (arith, below)) so.has (so.stays y guards) (put t);
     })
 
 -- and it was written
@@ -169,5 +169,5 @@ full_done medium s jump tries name desk desk' was run is u old new below so put 
       stays = λ y t guards.
           let kept = so.stays y guards in
           guards_empty known y (s + 1) is (desk'.files name) begins.first_is (subst (AsksBad known y) (sym fates) kept.guards.erased)
-          (spared_run known y (s + 1) run desk.files desk'.files name (Ok u) so.has kept (put t));
+          (spared_run known y (s + 1) run desk.files desk'.files name (Ok u) (sized_by medium.extent _) (omega (arith, below)) so.has kept (put t));
     }

@@ -81,7 +81,7 @@ ends_passed medium jump tries name s desk desk' desk'' rack rack' reading readin
                 (put (subst IsTrue (sym so.works.tells) t));
           };
       stays = λ y t guards.
-          spared_run known y known.sectors reading' desk'.files desk''.files name (Ok u) so.run (so.stays y t guards) (put (subst IsTrue (sym so.works.tells) t));
+          spared_run known y known.sectors reading' desk'.files desk''.files name (Ok u) (sized_by medium.extent _) (omega arith) so.run (so.stays y t guards) (put (subst IsTrue (sym so.works.tells) t));
     }
 
 -- its writing failed
@@ -104,5 +104,5 @@ ends_unwritten medium jump tries name s desk desk' desk'' rack rack' reading rea
                 (put (subst IsTrue (sym so.works.tells) t));
           };
       stays = λ y t guards.
-          spared_run known y known.sectors reading' desk'.files desk''.files name (Err cause) so.run (so.stays y t guards) (put (subst IsTrue (sym so.works.tells) t));
+          spared_run known y known.sectors reading' desk'.files desk''.files name (Err cause) (sized_by medium.extent _) (omega arith) so.run (so.stays y t guards) (put (subst IsTrue (sym so.works.tells) t));
     })

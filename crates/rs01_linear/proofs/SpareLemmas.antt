@@ -1,10 +1,10 @@
 -- What is good in an image file stays, whatever is put in the places of the other sectors.
-use Rattle.std.proofs.Common.{◌≡◌, ℕ, zero, suc, ◌+◌, ◌-◌, ◌*◌, ◌/◌, ◌<◌, ◌≤◌, ◌∙◌, ap, arith, sym, refl, true, false, Some, None, List, [], ◌∷◌, ◌++◌, length, take, drop, get_or, ⊎_elim, inl, inr}
+use Rattle.std.proofs.Common.{◌≡◌, ℕ, zero, suc, ◌+◌, ◌-◌, ◌*◌, ◌/◌, ◌<◌, ◌≤◌, ◌∙◌, ap, arith, sym, refl, true, false, Some, None, List, [], ◌∷◌, length, take, drop, get_or, ⊎_elim, inl, inr}
 use Rattle.std.specs.Prelude.{◌⊎◌, Bool, Result, Ok, Err, IsSomeAnd, Option}
 use Rattle.std.specs.Option.{unwrap_or}
 use Rattle.std.proofs.Math.ListN.{set}
 use Rattle.std.proofs.lemmas.Bool.{cases_lt}
-use Rattle.std.proofs.lemmas.List.{length-take}
+use Rattle.std.proofs.lemmas.List.{ext_get_or, get_or-drop, length-drop, length-take}
 use Rattle.rs01_outside.specs.Files.{Files, Writes, put_at}
 use Rattle.rs01_ecchead.specs.Erased.{Known, image_len, is_erased}
 use Rattle.rs01_linear.specs.Course.{fate_of}
@@ -17,6 +17,7 @@ use Rattle.rs01_linear.specs.declared.fate.Fate.{Fate}
 use Rattle.rs01_linear.specs.declared.fate.Fate.TheVariants.{Kept}
 use Rattle.rs01_linear.specs.declared.reading.Reading.{Reading}
 use Rattle.rs01_linear.specs.declared.refusal.ReadRefusal.{ReadRefusal}
+use Rattle.rs01_linear.proofs.LaidLemmas.{Sized, place_of, place_within}
 use Rattle.rs01_outside.proofs.PutLemmas.{length-put_at, put_at-before, put_at-behind}
 
 -- a byte that is to stay doesn't stand in a run of sectors that weren't good
@@ -53,39 +54,62 @@ apart known y first past k n some few bad stay =
     true_not : true ≡ false → ⊥
     true_not e = cc
 
--- bytes in the place of such a run
-spares_put : (known : Known) (y file bytes : List ℕ) (first past : ℕ) → first < past → length bytes ≤ place known past - place known first
-    → ((i : ℕ) → first ≤ i → i < past → is_erased known y i ≡ true) → Spares known y file → Spares known y (put_at file (2048 * first) bytes)
-spares_put known y file bytes first past some few bad spares = record {
-  longer = omega (arith, spares.longer, length-put_at file bytes (2048 * first));
-  same = λ k low stay.
-      ⊎_elim
-      (λ before. put_at-before file bytes (2048 * first) k before)
-      (λ behind. put_at-behind file bytes (2048 * first) k behind)
-      (apart known y first past k (length bytes) some few bad stay)
-      ∙ spares.same k low stay;
+-- what is to stay stays, and as many bytes stand behind the image, so they are the same ones
+pub spares_of : (known : Known) (y later : List ℕ) → length y ≤ length later → length later - image_len known ≡ length y - image_len known
+    → ((k : ℕ) → k < length y → IsToStay known y k → get_or later k 0 ≡ get_or y k 0) → Spares known y later
+spares_of known y later longer long same = record {
+  longer = longer;
+  surplus =
+      ext_get_or 0 (drop (image_len known) later) (drop (image_len known) y)
+      (length-drop (image_len known) later ∙ long ∙ sym (length-drop (image_len known) y))
+      (λ i below.
+      get_or-drop (image_len known) later i 0
+      ∙ same (image_len known + i) (omega (arith, below, long, length-drop (image_len known) later)) (inl (omega arith))
+      ∙ sym (get_or-drop (image_len known) y i 0));
+  same = same;
 }
 
+-- the run ends within the image
+run_within : (known : Known) (first past n : ℕ) → Sized known → first < past → past ≤ known.sectors → n ≤ place known past - place known first → 2048 * first + n ≤ image_len known
+run_within known first past n sized some inside few =
+    omega (arith, few, place_of known first sized (omega (arith, some, inside)), place_within known past, place_within known first)
+
+-- bytes in the place of such a run
+spares_put : (known : Known) (y file bytes : List ℕ) (first past : ℕ) → Sized known → past ≤ known.sectors → first < past → length bytes ≤ place known past - place known first
+    → ((i : ℕ) → first ≤ i → i < past → is_erased known y i ≡ true) → Spares known y file → Spares known y (put_at file (2048 * first) bytes)
+spares_put known y file bytes first past sized inside some few bad spares =
+    let ends : length file - image_len known ≡ length y - image_len known =
+    sym (length-drop (image_len known) file) ∙ ap length spares.surplus ∙ length-drop (image_len known) y in
+    spares_of known y (put_at file (2048 * first) bytes)
+    (omega (arith, spares.longer, length-put_at file bytes (2048 * first)))
+    (omega (arith, ends, length-put_at file bytes (2048 * first), run_within known first past (length bytes) sized some inside few))
+    (λ k low stay.
+    ⊎_elim
+    (λ before. put_at-before file bytes (2048 * first) k before)
+    (λ behind. put_at-behind file bytes (2048 * first) k behind)
+    (apart known y first past k (length bytes) some few bad stay)
+    ∙ spares.same k low stay)
+
 -- the same under a name
-put_under : (known : Known) (y : List ℕ) (old new : Files) (name bytes : List ℕ) (first past : ℕ) → first < past → length bytes ≤ place known past - place known first
+put_under : (known : Known) (y : List ℕ) (old new : Files) (name bytes : List ℕ) (first past : ℕ) → Sized known → past ≤ known.sectors → first < past → length bytes ≤ place known past - place known first
     → ((i : ℕ) → first ≤ i → i < past → is_erased known y i ≡ true)
     → IsSomeAnd (old name) (Spares known y) → Writes old new name (2048 * first) bytes → IsSomeAnd (new name) (Spares known y)
-put_under known y old new name bytes first past some few bad spares written = rw written.there (in_file (old name) spares)
+put_under known y old new name bytes first past sized inside some few bad spares written = rw written.there (in_file (old name) spares)
   where
     in_file : (o : Option (List ℕ)) → IsSomeAnd o (Spares known y) → Spares known y (put_at (unwrap_or o []) (2048 * first) bytes)
     in_file None spares = absurd spares
-    in_file (Some file) spares = spares_put known y file bytes first past some few bad spares
+    in_file (Some file) spares = spares_put known y file bytes first past sized inside some few bad spares
 
 -- the run was written, or its writing failed
 pub spared_run : (known : Known) (y : List ℕ) (past : ℕ) (reading : Reading) (old new : Files) (name : List ℕ) (result : Result Unit ReadRefusal)
-    → HasRun known past reading → GuardsRun known y past reading (old name) → PutsRun old new name past reading result → IsSomeAnd (new name) (Spares known y)
-spared_run known y past reading old new name result has guards (inl same) = rw (ap (λ (f : Files). f name) same.1) guards.guards.file_is
-spared_run known y past reading old new name (Ok u) has guards (inr put) =
-    put_under known y old new name reading.bytes.items reading.first past put.0 (omega (arith, has.long)) guards.run guards.guards.file_is put.1
-spared_run known y past reading old new name (Err e) has guards (inr put) =
+    → Sized known → past ≤ known.sectors → HasRun known past reading → GuardsRun known y past reading (old name) → PutsRun old new name past reading result → IsSomeAnd (new name) (Spares known y)
+spared_run known y past reading old new name result sized inside has guards (inl same) = rw (ap (λ (f : Files). f name) same.1) guards.guards.file_is
+spared_run known y past reading old new name (Ok u) sized inside has guards (inr put) =
+    put_under known y old new name reading.bytes.items reading.first past sized inside put.0 (omega (arith, has.long)) guards.run guards.guards.file_is put.1
+spared_run known y past reading old new name (Err e) sized inside has guards (inr put) =
     elim put.1 [
       | inl same ↦ rw (ap (λ (f : Files). f name) same) guards.guards.file_is
-      | inr some ↦ put_under known y old new name (take some.0 reading.bytes.items) reading.first past put.0
+      | inr some ↦ put_under known y old new name (take some.0 reading.bytes.items) reading.first past sized inside put.0
           (omega (arith, has.long, length-take some.0 reading.bytes.items)) guards.run guards.guards.file_is some.1
     ]
 

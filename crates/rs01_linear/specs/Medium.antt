@@ -1,7 +1,7 @@
 -- What is known of the medium in the drives before a sector is asked for.
-use Rattle.std.specs.Prelude.{ℕ, ◌≡◌, ◌==◌, ◌||◌, ◌<◌, ◌⊎◌, nat_lt, if◌then◌else◌, List, [], Option, Some, None, Result, Ok, Err, IsOkAnd, IsSomeAnd, IsTrue, IfOk}
+use Rattle.std.specs.Prelude.{ℕ, ◌≡◌, ◌==◌, ◌||◌, ◌<◌, ◌⊎◌, nat_lt, if◌then◌else◌, List, [], Option, Some, None, Result, Ok, Err, IsOk, IsOkAnd, IsSomeAnd, IsTrue, IfErr, IfOk}
 use Rattle.std.specs.Borrow.{Bor}
-use Rattle.std.specs.Option.{option_map, unwrap_or}
+use Rattle.std.specs.Option.{ForSome, option_map, unwrap_or}
 use Rattle.rs01_outside.specs.DeskState.{DeskState}
 use Rattle.rs01_outside.specs.DriveView.{DriveView}
 use Rattle.rs01_rack.specs.Counting.{GivesNumber, number_of}
@@ -13,7 +13,7 @@ use Rattle.rs01_ecchead.specs.Opened.{Opened, opened_as, opened_file}
 use Rattle.rs01_ecchead.specs.declared.opened.Ecc.{Ecc}
 use Rattle.rs01_ecchead.specs.declared.opened.EccRefusal.{EccRefusal}
 use Rattle.rs01_linear.specs.Lasting.{RackLasts}
-use Rattle.rs01_linear.specs.Refusal.{IsOfMedium}
+use Rattle.rs01_linear.specs.Refusal.{IsOfMedium, RefusesSizeAlone}
 use Rattle.rs01_linear.specs.declared.medium.Medium.{Medium}
 use Rattle.rs01_linear.specs.declared.refusal.ReadRefusal.{ReadRefusal}
 use Rattle.rs01_linear.specs.declared.refusal.ReadRefusal.TheVariants as refusal
@@ -97,6 +97,20 @@ OpensGiven file (Err why) = Unit {0}
 abbrev pub TellsOpened : DeskState → Option (Bor (List ℕ)) → Result (Option Ecc) ReadRefusal → Type 0
 TellsOpened desk ecc answer = IsTrue desk.tells → OpensGiven (file_given desk ecc) answer
 
+-- where the desk tells its files, whatever the drives do: an error correction file that is refused is refused so, and with
+-- any other answer one that is given opens, unless a fault of reading or want of memory ended the call
+abbrev pub AnswersFile : {T : Type 0} → DeskState → Option (Bor (List ℕ)) → Result T ReadRefusal → Type 0
+AnswersFile desk ecc (Err (refusal.Ecc why)) = IsTrue desk.tells → IsSomeAnd (file_given desk ecc) (λ given. opened_file given ≡ Err why)
+AnswersFile desk ecc (Err refusal.ReadFault) = Unit {0}
+AnswersFile desk ecc (Err refusal.OutOfMemory) = Unit {0}
+AnswersFile desk ecc answer = IsTrue desk.tells → ForSome (file_given desk ecc) (λ given. IsOk (opened_file given))
+
+-- whatever the drives tell: what is answered of the file that is named, and the drives' number of sectors refuses a medium
+-- only where none is
+pub record AnswersNamed {T : Type 0} (desk : DeskState) (ecc : Option (Bor (List ℕ))) (answer : Result T ReadRefusal) : Type 0 where
+  pub file : AnswersFile desk ecc answer
+  pub size : IfErr answer (RefusesSizeAlone ecc)
+
 -- a number of sectors that no medium has
 abbrev pub IsUnfit : ℕ → Type 0
 IsUnfit n = (n ≡ 0) ⊎ (16777215 < n)
@@ -116,6 +130,12 @@ pub record IsRefused (ecc : Option Ecc) (n : ℕ) (why : ReadRefusal) : Type 0 w
 abbrev pub MakesMedium : Option Ecc → ℕ → Result Medium ReadRefusal → Type 0
 MakesMedium ecc n (Ok medium) = IsMade ecc n medium
 MakesMedium ecc n (Err why) = IsRefused ecc n why
+
+-- the drives gave so many sectors, and the rest of the call went on from there
+pub record Numbered (n : ℕ) (old new : RackState) : Type 0 where
+  pub between : RackState
+  pub gives : GivesNumber (Ok n) old between
+  pub lasts : RackLasts between new
 
 -- the drives gave a number of sectors, which without a file is the medium's
 pub record HasNumber (medium : Medium) (old new : RackState) : Type 0 where

@@ -11,7 +11,7 @@ use Rattle.rs01_linear.specs.Course.{Manner, manner_of, read_to, whole_reading}
 use Rattle.rs01_linear.specs.Lasting.{AllRoseBy}
 use Rattle.rs01_linear.specs.Left.{image_left, marked}
 use Rattle.rs01_linear.specs.Marking.{IsMixed}
-use Rattle.rs01_linear.specs.Medium.{Found, IsUnfit, file_given, found}
+use Rattle.rs01_linear.specs.Medium.{Found, IsUnfit, Numbered, file_given, found}
 use Rattle.rs01_linear.specs.Refusal.{IsOfMedium, writes_badly}
 use Rattle.rs01_linear.specs.Report.{report_of}
 use Rattle.rs01_linear.specs.declared.refusal.ReadRefusal.{ReadRefusal}
@@ -72,8 +72,10 @@ abbrev pub TellsReading : (desk desk' : DeskState) → Option (Bor (List ℕ)) �
 TellsReading desk desk' ecc jump tries name result old new =
     IsTrue desk.tells → AllTell new → Reads (file_given desk ecc) (manner_of jump tries) old new (desk.files name) (desk'.files name) result
 
--- a refusal of the drives, whether they tell or not: what they gave, and with which cause
+-- what the drives gave, whether they tell or not: a number, where the medium was read, or what they are refused for, and
+-- with which cause
 abbrev pub RefusesBy : {T : Type 0} → Result T ReadRefusal → RackState → RackState → Type 0
+RefusesBy (Ok told) old new = (n : ℕ) × Numbered n old new
 RefusesBy (Err (Ecc why)) old new = new ≡ old
 RefusesBy (Err (Rack why)) old new = GivesNumber (Err why) old new × HasCause (Err why) old new
 RefusesBy (Err (DriveSize n)) old new = GivesNumber (Ok n) old new × IsUnfit n

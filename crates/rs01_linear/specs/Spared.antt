@@ -1,12 +1,12 @@
 -- What stays of an image file y, whatever the drives give.
-use Rattle.std.specs.Prelude.{ℕ, ◌≡◌, ◌<◌, ◌≤◌, ◌⊎◌, ◌/◌, IsSomeAnd, IsTrue, IsOkAnd, List, Option, Result, Ok, Err, false, true, get_or, length}
+use Rattle.std.specs.Prelude.{ℕ, ◌≡◌, ◌<◌, ◌≤◌, ◌⊎◌, ◌/◌, IsSomeAnd, IsTrue, IsOkAnd, List, None, Option, Result, Ok, Err, drop, false, true, get_or, length}
 use Rattle.std.specs.Borrow.{Bor}
 use Rattle.rs01_outside.specs.DeskState.{DeskState}
 use Rattle.rs01_outside.specs.Files.{bytes_of}
 use Rattle.rs01_rack.specs.Rack.{AllTell, RackState, views_of}
 use Rattle.rs01_ecchead.specs.Erased.{Known, image_len, is_erased}
 use Rattle.rs01_linear.specs.Marking.{is_left_out}
-use Rattle.rs01_linear.specs.Medium.{IsKnownBy, file_given, found}
+use Rattle.rs01_linear.specs.Medium.{IsKnownBy, Numbered, file_given, found}
 use Rattle.rs01_linear.specs.declared.fate.Fate.{Fate}
 use Rattle.rs01_linear.specs.declared.fate.Fate.TheVariants.{Kept}
 use Rattle.rs01_linear.specs.declared.reading.Reading.{Reading}
@@ -15,9 +15,11 @@ use Rattle.rs01_linear.specs.declared.reading.Reading.{Reading}
 abbrev pub IsToStay : Known → List ℕ → ℕ → Type 0
 IsToStay known y k = (image_len known ≤ k) ⊎ (is_erased known y (k / 2048) ≡ false)
 
--- a later file isn't shorter, and has the bytes that are to stay
+-- a later file isn't shorter, has the bytes that are to stay, and ends as before: behind the image it has the same bytes
+-- and no others, and none where the file had none
 pub record Spares (known : Known) (y later : List ℕ) : Type 0 where
   pub longer : length y ≤ length later
+  pub surplus : drop (image_len known) later ≡ drop (image_len known) y
   pub same : (k : ℕ) → k < length y → IsToStay known y k → get_or later k 0 ≡ get_or y k 0
 
 -- only sectors that weren't good may be asked for
@@ -39,10 +41,12 @@ abbrev pub GuardsOn : {T E : Type 0} → Known → List ℕ → ℕ → Reading 
 GuardsOn known y s reading file (Ok value) = GuardsRun known y s reading file
 GuardsOn known y s reading file (Err why) = IsSomeAnd file (Spares known y)
 
--- by what is known of the medium, which is what is found where the drives tell
+-- by what is known of the medium, which is what is found where the drives tell; without an error correction file it has as
+-- many sectors as the drives gave
 pub record IsSpared (given : Option (Option (List ℕ))) (y : List ℕ) (file : Option (List ℕ)) (old new : RackState) : Type 0 where
   pub known : Known
   pub known_is : IsKnownBy given known
+  pub number : given ≡ None → Numbered known.sectors old new
   pub told : AllTell new → IsOkAnd (found given (views_of old)) (λ f. f.known ≡ known)
   pub spares : IsSomeAnd file (Spares known y)
 

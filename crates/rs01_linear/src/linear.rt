@@ -4,11 +4,12 @@ ghost use Rattle.std.specs.Option.{ForSome};
 ghost use Rattle.rs01_linear.specs.Course.{IsManner};
 ghost use Rattle.rs01_linear.specs.Lasting.{RackLasts};
 ghost use Rattle.rs01_linear.specs.Linear.{TellsPrepared};
+ghost use Rattle.rs01_linear.specs.Medium.{AnswersNamed};
 ghost use Rattle.rs01_linear.specs.Outcome.{RefusesBy, TellsReading, UnreadableRose};
 ghost use Rattle.rs01_linear.specs.Racks.{OnRack, seen_by};
 ghost use Rattle.rs01_linear.specs.Report.{IsFresh};
 ghost use Rattle.rs01_linear.specs.Spared.{StaysGood};
-ghost use Rattle.rs01_linear.specs.Refusal.{IsOfWork, LeavesAll, RefusesSizeAlone, TellsFaults, WorksBy};
+ghost use Rattle.rs01_linear.specs.Refusal.{IsOfWork, LeavesAll, TellsFaults, WorksBy};
 
 use crate::medium::Medium;
 use crate::opening::open_medium;
@@ -78,8 +79,9 @@ fn read_prepared<D: Desk>(
 /// reading leaves and the others those of the marked file.
 ///
 /// Whatever the drives give and however it ends, the image file isn't shorter than before, and the sectors that it had
-/// good and the bytes past the image are the same. Each sector that is told to be unreadable raised the count of faults of
-/// each drive.
+/// good and the bytes past the image are the same, and no others come behind these. Each sector that is told to be
+/// unreadable raised the count of faults of each drive, and a report is only given where the drives gave a number of
+/// sectors. Where the desk tells its files, the error correction file is refused or opened as its bytes say.
 pub fn read_linear<D: Desk>(
     alloc: Global,
     rack: &mut Rack,
@@ -94,10 +96,10 @@ pub fn read_linear<D: Desk>(
     ensures works { WorksBy image.now (D.state desk.old) (D.state desk.new) result }
     ensures lasts { OnRack ⟦<dyn Drive as Drive>⟧ RackLasts rack.old rack.new }
     ensures causes { IfErr result TellsFaults }
-    ensures size { IfErr result (RefusesSizeAlone ecc.entry) }
     ensures untouched { IfErr result (LeavesAll (D.state desk.old) (D.state desk.new)) }
     ensures unreadable { OnRack ⟦<dyn Drive as Drive>⟧ (UnreadableRose result) rack.old rack.new }
     ensures refused { OnRack ⟦<dyn Drive as Drive>⟧ (RefusesBy result) rack.old rack.new }
+    ensures answers { AnswersNamed (D.state desk.old) ecc.entry result }
     ensures told { OnRack ⟦<dyn Drive as Drive>⟧ (TellsReading (D.state desk.old) (D.state desk.new)
         ecc.entry jump tries image.now result) rack.old rack.new }
     ensures stays { OnRack ⟦<dyn Drive as Drive>⟧ (StaysGood (D.state desk.old) (D.state desk.new)

@@ -1,9 +1,9 @@
 //! Opening a medium.
 ghost use Rattle.std.specs.Prelude.{◌≤◌, IfErr, IfOk, length};
 ghost use Rattle.rs01_outside.specs.DeskState.{OnlyReads};
-ghost use Rattle.rs01_linear.specs.Medium.{Finds, IsGiven, MakesMedium, TellsFound, TellsKnown, TellsOpened};
+ghost use Rattle.rs01_linear.specs.Medium.{AnswersNamed, Finds, IsGiven, MakesMedium, TellsFound, TellsKnown, TellsOpened};
 ghost use Rattle.rs01_linear.specs.Racks.{OnRack};
-ghost use Rattle.rs01_linear.specs.Refusal.{IsOfOpening, IsOfReading, RefusesSizeAlone, is_read_fault};
+ghost use Rattle.rs01_linear.specs.Refusal.{IsOfOpening, IsOfReading, is_read_fault};
 
 use crate::medium::Medium;
 use crate::refusal::ReadRefusal;
@@ -58,7 +58,8 @@ fn medium_of(ecc: Option<Ecc>, number: u32) -> Result<Medium, ReadRefusal>
 /// on. Without a file that number says how far the medium goes, and with one it isn't compared.
 ///
 /// The refusals come in this order: those of the file, those of the drives, and without a file a number of sectors that
-/// is 0 or above 16,777,215. No file changes, and no sector is asked for. Every rack meets the condition.
+/// is 0 or above 16,777,215. No file changes, and no sector is asked for. Where the desk tells its files, the file is
+/// refused or opened as its bytes say, whatever the drives tell. Every rack meets the condition.
 pub fn open_medium<D: Desk>(
     alloc: Global,
     desk: &mut D,
@@ -71,9 +72,9 @@ pub fn open_medium<D: Desk>(
     ensures told { let finds = TellsFound (D.state desk.old) ecc.entry result in
         OnRack ⟦<dyn Drive as Drive>⟧ finds rack.old rack.new }
     ensures opened { TellsKnown (D.state desk.old) ecc.entry result }
+    ensures answers { AnswersNamed (D.state desk.old) ecc.entry result }
     ensures given { IfOk result (λ medium. IsGiven ecc.entry medium.ecc) }
     ensures causes { IfErr result IsOfReading }
-    ensures size { IfErr result (RefusesSizeAlone ecc.entry) }
 {
     let opened = open_given(alloc, desk, ecc)?;
     let number = rack.sectors()?;

@@ -22,6 +22,16 @@ pub record IsLayerOf (ecc : Ecc) (l p : ℕ) : Type 0 where
   pub layer : l < layers_of ecc.head.sectors ecc.head.parity
   pub place : p < 255 - ecc.head.parity
 
+-- there is such a layer, and a state of each sector
+pub record HasLayer (ecc : Ecc) (course : CourseSeen) (l : ℕ) : Type 0 where
+  pub layer : l < layers_of ecc.head.sectors ecc.head.parity
+  pub all : length course.states ≡ ecc.head.sectors
+
+-- there is such a place of such a layer, and a state of each sector
+pub record HasPlace (ecc : Ecc) (course : CourseSeen) (l p : ℕ) : Type 0 where
+  pub place : IsLayerOf ecc l p
+  pub all : length course.states ≡ ecc.head.sectors
+
 -- whether a sector is left to the parity
 abbrev pub is_gone : CourseSeen → ℕ → Bool
 is_gone course s = is_open (state_of course.states s)

@@ -9,6 +9,8 @@ ghost use Rattle.rs01_ecchead.specs.Walked.{is_walk_fault};
 ghost use Rattle.rs01_repair.specs.Inputs.{flag_at, sum_at};
 ghost use Rattle.rs01_states.specs.Sparing.{is_open, state_of};
 ghost use Rattle.rs01_reader.specs.Inputs.{
+  HasLayer,
+  HasPlace,
   IsBuilt,
   IsLayerOf,
   ReadsParity,
@@ -40,8 +42,7 @@ fn is_gone(course: &Course, sector: u32) -> bool
 
 // Whether a place is erased.
 fn place_flag(ecc: &Ecc, course: &Course, layer: u32, place: u32) -> bool
-    requires layer { IsLayerOf ecc.now layer place }
-    requires all { length course.now.states ≡ ecc.now.head.sectors }
+    requires place { HasPlace ecc.now course.now layer place }
     ensures { result ≡ flag_at (fields_of ecc.now.head) (is_gone course.now) layer place }
 {
     match ecc.shape().sector_at(layer, place) {
@@ -68,8 +69,7 @@ fn layer_flags(
     course: &Course,
     layer: u32,
 ) -> Result<Vec<bool>, AllocError>
-    requires layer { layer < layers_of ecc.now.head.sectors ecc.now.head.parity }
-    requires all { length course.now.states ≡ ecc.now.head.sectors }
+    requires layer { HasLayer ecc.now course.now layer }
     ensures { let f = fields_of ecc.now.head in IfOk result (λ flags. flags.items
         ≡ map (flag_at f (is_gone course.now) layer) (range_with_len 0 (255 - f.parity))) }
 {
@@ -133,8 +133,7 @@ fn read_place<D: Desk>(
     place: u32,
     block: &mut [u8; 2048],
 ) -> Result<(), WalkFault>
-    requires place { IsLayerOf ecc.now layer place }
-    requires all { length course.now.states ≡ ecc.now.head.sectors }
+    requires place { HasPlace ecc.now course.now layer place }
     ensures reads { OnlyReads (D.state desk.old) (D.state desk.new) (is_walk_fault result) }
     ensures block { InFile (D.state desk.old) image.now (λ file.
         OnOk result (block.new ≡ kept_at ecc.now course.now file layer place)) }
@@ -156,8 +155,7 @@ fn add_place<D: Desk>(
     place: u32,
     blocks: &mut Vec<u8>,
 ) -> Result<(), WalkFault>
-    requires place { IsLayerOf ecc.now layer place }
-    requires all { length course.now.states ≡ ecc.now.head.sectors }
+    requires place { HasPlace ecc.now course.now layer place }
     ensures reads { OnlyReads (D.state desk.old) (D.state desk.new) (is_walk_fault result) }
     ensures long { OnOk result (length blocks.new.items ≡ length blocks.old.items + 2048) }
     ensures told { InFile (D.state desk.old) image.now (λ file. OnOk result (blocks.new.items
@@ -178,8 +176,7 @@ fn read_blocks<D: Desk>(
     course: &Course,
     layer: u32,
 ) -> Result<Vec<u8>, WalkFault>
-    requires layer { layer < layers_of ecc.now.head.sectors ecc.now.head.parity }
-    requires all { length course.now.states ≡ ecc.now.head.sectors }
+    requires layer { HasLayer ecc.now course.now layer }
     ensures reads { OnlyReads (D.state desk.old) (D.state desk.new) (is_walk_fault result) }
     ensures long { IfOk result (λ blocks. length blocks.items
         ≡ 2048 * (255 - ecc.now.head.parity)) }
@@ -222,8 +219,7 @@ pub fn read_input<D: Desk>(
     course: &Course,
     layer: u32,
 ) -> Result<LayerInput, WalkFault>
-    requires layer { layer < layers_of ecc.now.head.sectors ecc.now.head.parity }
-    requires all { length course.now.states ≡ ecc.now.head.sectors }
+    requires layer { HasLayer ecc.now course.now layer }
     ensures reads { OnlyReads (D.state desk.old) (D.state desk.new) (is_walk_fault result) }
     ensures layer { IfOk result (λ input. input.layer ≡ layer) }
     ensures built { IfOk result (IsBuilt ecc.now course.now image.now name.now (D.state desk.old)) }

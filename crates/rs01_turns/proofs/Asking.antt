@@ -1,6 +1,6 @@
 -- One ask keeps what a reader keeps.
-use Rattle.std.proofs.Common.{inl, inr, ◌≡◌, ℕ, zero, suc, ◌+◌, ◌-◌, ◌*◌, ◌<◌, ◌≤◌, ◌%◌, ⊎_elim, List, [], ◌∷◌, length, take, refl, sym, ap, subst, ◌∙◌, arith}
-use Rattle.std.specs.Prelude.{◌≢◌, Bool, true, false, IsTrue, IsSomeAnd, is_err, Option, Some, None, Result, Ok, Err, if◌then◌else◌}
+use Rattle.std.proofs.Common.{inl, inr, ◌≡◌, ℕ, zero, suc, ◌+◌, ◌-◌, ◌*◌, ◌<◌, ◌≤◌, ◌%◌, ⊎_elim, List, [], ◌∷◌, length, take, refl, sym, ap, subst, ◌∙◌, arith, replicate}
+use Rattle.std.specs.Prelude.{◌≢◌, Bool, true, false, IsTrue, IsSomeAnd, is_err, Option, Some, None, Result, Ok, Err, if◌then◌else◌, slice_get}
 use Rattle.std.specs.Fn.{iterate}
 use Rattle.std.proofs.Math.ListN.{set}
 use Rattle.std.proofs.lemmas.List.{append-nil, get_or-set_same, get_or-set_other, length-set, length-take, length-take-le}
@@ -37,6 +37,7 @@ use Rattle.rs01_turns.specs.Laws.{AskLeads, KeepsRest, Puts, PutsIfRead}
 use Rattle.rs01_turns.proofs.Unreads.{after-marks, unread-other}
 use Rattle.rs01_turns.proofs.Turning.{next-unread, rest-of-next}
 use Rattle.rs01_turns.proofs.Ending.{state-here}
+use Rattle.rs01_turns.proofs.Times.{ask-at, same-drive}
 use Rattle.rs01_turns.proofs.Leading.{same-desk, unread-same}
 use Rattle.rs01_turns.proofs.Placing.{IsPlaced, WroteOver, drop-outside, part-blend, part-here, part-outside, placed, wrote-over}
 
@@ -123,6 +124,13 @@ drives-after f s block asked rack desk asks cause = record {
   rose = λ k b a was is.
       let rose = rose_of asked f.rack rack asks.lasts cause k b a was is in
       omega (arith, rose, unread_set f.fates s (fate_of asked));
+  asked = λ t k b a was is.
+      let at = ask-at (known_at f) s f.setting.terms.tries (views_of f.rack) k b was in
+      let there = ap (λ (vs : List DriveView). slice_get vs k) (sym (asks.told t).views_are) ∙ is in (
+        replicate at.times.count s,
+        ap (λ (v : DriveView). v.asked) (same-drive (ask_drives (known_at f) s f.setting.terms.tries (views_of f.rack)).views k at.other a at.there there)
+            ∙ at.times.asked,
+      );
 }
 
 -- what was written

@@ -1,15 +1,18 @@
 -- What is kept between two moments is kept along a chain.
 use Rattle.std.proofs.Common.{zero, suc, inl, inr, get_or, ◌≡◌, ℕ, ◌*◌, ◌≤◌, ◌<◌, ⊎_elim, List, [], ◌∷◌, ◌++◌, length, take, drop, refl, sym, ap, subst, ◌∙◌, arith}
 use Rattle.std.specs.Prelude.{◌⊎◌, ◌≢◌, Bool, Contains, true, false, IsTrue, IsSomeAnd, Option, Some, slice_get}
-use Rattle.std.proofs.lemmas.List.{append-nil, append_assoc}
+use Rattle.std.proofs.lemmas.List.{append-nil, append_assoc, length-map}
 use Rattle.std.proofs.lemmas.List.Elements.{Contains-append_cases}
 use Rattle.std.proofs.lemmas.Bool.{cases_Bool, false≢true}
+use Rattle.std.proofs.lemmas.Option.{slice_get_within, slice_get-get_or}
 use Rattle.rs01_lists.specs.Bytes.{part}
 use Rattle.rs01_layers.specs.Sectors.{length_of}
 use Rattle.rs01_outside.specs.Causes.{Rose}
 use Rattle.rs01_outside.specs.DeskState.{DeskState}
+use Rattle.rs01_outside.specs.DriveState.{DriveState}
+use Rattle.rs01_outside.specs.DriveView.{DriveView}
 use Rattle.rs01_outside.specs.Files.{Files, bytes_of}
-use Rattle.rs01_rack.specs.Rack.{AllTell, RackState}
+use Rattle.rs01_rack.specs.Rack.{AllTell, RackState, views_of}
 use Rattle.rs01_ecchead.specs.Erased.{image_len}
 use Rattle.rs01_states.specs.declared.state.State.{State}
 use Rattle.rs01_states.specs.declared.state.State.TheVariants.{Unread, Good, Failed, Spared}
@@ -32,6 +35,13 @@ told-before f g same tell k drive was =
     let is = drive_there f.rack.drives g.rack.drives k drive same.number was in
     (same.each k drive (get_or g.rack.drives k drive) was is).told_before (tell k (get_or g.rack.drives k drive) is)
 
+-- there is a view at each place of a rack with as many drives
+view-there : (one two : RackState) (k : ℕ) (v : DriveView) → length two.drives ≡ length one.drives → slice_get (views_of one) k ≡ Some v
+    → slice_get (views_of two) k ≡ Some (get_or (views_of two) k v)
+view-there one two k v same was =
+    slice_get-get_or (views_of two) k v
+    (omega (arith, same, slice_get_within (views_of one) k v was, length-map one.drives (λ (d : DriveState). d.view), length-map two.drives (λ (d : DriveState). d.view)))
+
 pub drives-on : (f g h : Moment) → SameDrives f g → SameDrives g h → SameDrives f h
 drives-on f g h fg gh = record {
   number = gh.number ∙ fg.number;
@@ -46,6 +56,12 @@ drives-on f g h fg gh = record {
       let early = fg.rose k b (get_or g.rack.drives k b) was there in
       let late = gh.rose k (get_or g.rack.drives k b) a there is in
       omega (arith, early, late);
+  asked = λ t k b a was is.
+      let m = get_or (views_of g.rack) k b in
+      let there = view-there f.rack g.rack k b fg.number was in
+      let early = fg.asked (told-before g h gh t) k b m was there in
+      let late = gh.asked t k m a there is in
+      (early.0 ++ late.0, late.1 ∙ ap (λ (xs : List ℕ). xs ++ late.0) early.1 ∙ append_assoc b.asked early.0 late.0);
 }
 
 -- the desk
@@ -219,6 +235,10 @@ same-drives f g rack fates = record {
       let rose = same_rose (slice_get f.rack.drives k) b a was (sym (ap (λ (r : RackState). slice_get r.drives k) rack) ∙ is) in
       let same : unanswered g ≡ unanswered f = ap unread fates in
       omega (arith, rose, same);
+  asked = λ t k b a was is.
+      let one : Some a ≡ Some b = sym is ∙ ap (λ (r : RackState). slice_get (views_of r) k) rack ∙ was in
+      let same : a ≡ b = cc in
+      ([], ap (λ (v : DriveView). v.asked) same ∙ sym (append-nil b.asked));
 }
 
 pub unread-same : (f g : Moment) (s : ℕ) (x : State) → is_unread x ≡ true → SameAt f g s → Became f g s x

@@ -41,9 +41,10 @@ where-stopped f g leads t =
     let end : rest_of g ≡ rest_of f = (leads.rest t).end in
     record {
       number = sym (ends-all (terms_of g) (reading_at g)).drives ∙ ap (λ (r : Reading). length r.views) end;
-      asked = λ k now all was is.
+      asked = λ k start now all from was is.
+          let grew = leads.drives.asked t k start now from was in
           let on = asks-few (terms_of g) (reading_at g) k now all was (ap (λ (r : Reading). slice_get r.views k) end ∙ is) in
-          (on.more, on.asked);
+          record { done = grew.0; more = on.more; sofar_is = grew.1; all_is = on.asked };
       sectors = λ it s. ⊎_elim
           (λ unread. sofar f g s (state_of g.states s) (leads.became s unread) t it)
           (λ not_. inl ((leads.stays s not_).same.bytes_same it))

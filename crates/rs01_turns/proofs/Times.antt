@@ -40,9 +40,9 @@ times-other s k (suc count) d =
     omega (arith, times-cons s k (replicate count k), none, times-other s k count d)
 
 -- a drive was asked for a sector so many times at most
-record AskedTimes (s tries : ℕ) (one other : DriveView) : Type 0 where
-  count : ℕ
-  asked : other.asked ≡ one.asked ++ replicate count s
+pub record AskedTimes (s tries : ℕ) (one other : DriveView) : Type 0 where
+  pub count : ℕ
+  pub asked : other.asked ≡ one.asked ++ replicate count s
   few : count ≤ tries
 
 never-asked : (s tries : ℕ) (one other : DriveView) → other ≡ one → AskedTimes s tries one other
@@ -67,10 +67,10 @@ try-times view s zero = never-asked s zero view view refl
 try-times view s (suc tries) = try-more (is_some (answer_at view s)) view s tries (try_drive (ask view s) s tries) (try-times (ask view s) s tries)
 
 -- the drive at a place among others, after they were asked
-record AskedAt (s tries : ℕ) (views : List DriveView) (j : ℕ) (one : DriveView) : Type 0 where
-  other : DriveView
-  there : slice_get views j ≡ Some other
-  times : AskedTimes s tries one other
+pub record AskedAt (s tries : ℕ) (views : List DriveView) (j : ℕ) (one : DriveView) : Type 0 where
+  pub other : DriveView
+  pub there : slice_get views j ≡ Some other
+  pub times : AskedTimes s tries one other
 
 none-there : (views : List DriveView) (j : ℕ) (one : DriveView) → views ≡ [] → slice_get views j ≡ Some one → ⊥
 none-there views j one none h =
@@ -102,7 +102,7 @@ front-at false s tries view views tried read later (suc j) one here rest was =
     let at = rest j one was in
     record { other = at.other; there = at.there; times = at.times }
 
-ask-at : (known : Known) (s tries : ℕ) (views : List DriveView) (j : ℕ) (one : DriveView) → slice_get views j ≡ Some one → AskedAt s tries (ask_drives known s tries views).views j one
+pub ask-at : (known : Known) (s tries : ℕ) (views : List DriveView) (j : ℕ) (one : DriveView) → slice_get views j ≡ Some one → AskedAt s tries (ask_drives known s tries views).views j one
 unfolding ask_drives
 ask-at known s tries [] j one was = absurd (none-there [] j one refl was)
 ask-at known s tries (view ∷ views) j one was =
@@ -120,7 +120,7 @@ record AskedWithin (terms : Terms) (n : ℕ) (now : Reading) (one other : DriveV
 some-asking : (asking : Asking) → Some asking ≡ None → ⊥
 some-asking asking h = cc
 
-same-drive : (views : List DriveView) (j : ℕ) (one other : DriveView) → slice_get views j ≡ Some one → slice_get views j ≡ Some other → other ≡ one
+pub same-drive : (views : List DriveView) (j : ℕ) (one other : DriveView) → slice_get views j ≡ Some one → slice_get views j ≡ Some other → other ≡ one
 same-drive views j one other was is = some-view other one (sym is ∙ was)
 
 ask-drive : (terms : Terms) (now : Reading) (k j : ℕ) (one : DriveView) → slice_get now.views j ≡ Some one → AskedAt k terms.tries (after_ask terms now k).views j one

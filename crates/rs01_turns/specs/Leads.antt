@@ -1,8 +1,9 @@
 -- What a reader that goes on keeps between two moments, f and then g.
-use Rattle.std.specs.Prelude.{ℕ, [], ◌∷◌, ◌≡◌, ◌≤◌, ◌<◌, ◌-◌, ◌⊎◌, ◌++◌, Contains, IsSomeAnd, IsTrue, List, Some, drop, false, true, length, slice_index_or, take}
+use Rattle.std.specs.Prelude.{ℕ, [], ◌∷◌, ◌≡◌, ◌≤◌, ◌<◌, ◌-◌, ◌⊎◌, ◌++◌, Contains, IsSomeAnd, IsTrue, List, Some, drop, false, true, length, slice_get, slice_index_or, take}
 use Rattle.rs01_outside.specs.Causes.{Rose}
+use Rattle.rs01_outside.specs.DriveView.{DriveView}
 use Rattle.rs01_outside.specs.Files.{SameElsewhere}
-use Rattle.rs01_rack.specs.Rack.{AllTell, AtDrive, capped}
+use Rattle.rs01_rack.specs.Rack.{AllTell, AtDrive, capped, views_of}
 use Rattle.rs01_ecchead.specs.Erased.{image_len}
 use Rattle.rs01_states.specs.Sparing.{layer_count, state_of}
 use Rattle.rs01_states.specs.declared.state.State.{State}
@@ -88,12 +89,19 @@ pub record GivenOnce (m : Moment) : Type 0 where
 abbrev pub unanswered : Moment → ℕ
 unanswered m = unread m.fates
 
--- the same drives, none of whose counts fell; each one's rose for each sector that no drive answered for since
+-- each drive was asked for more sectors or none, behind those before
+abbrev pub AllAskedOn : (before after : List DriveView) → Type 0
+AllAskedOn before after =
+    (k : ℕ) (was is : DriveView) → slice_get before k ≡ Some was → slice_get after k ≡ Some is → (more : List ℕ) × (is.asked ≡ was.asked ++ more)
+
+-- the same drives, none of whose counts fell; each one's rose for each sector that no drive answered for since, and where
+-- they tell nothing is gone that they were asked for
 pub record SameDrives (f g : Moment) : Type 0 where
   pub number : length g.rack.drives ≡ length f.rack.drives
   pub each : (k : ℕ) → AtDrive f.rack.drives g.rack.drives k Lasts
   pub asks_rise : capped f.rack.asks ≤ g.rack.asks
   pub rose : AllRoseBy (unanswered g - unanswered f) f.rack g.rack
+  pub asked : AllTell g.rack → AllAskedOn (views_of f.rack) (views_of g.rack)
 
 -- the desk tells at both moments or at neither, and none of its counts fell
 pub record SameDesk (f g : Moment) : Type 0 where

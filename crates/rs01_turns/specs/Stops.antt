@@ -13,9 +13,17 @@ use Rattle.rs01_turns.specs.Moments.{Moment, asking_of, bytes_at, fate_at, lengt
 use Rattle.rs01_turns.specs.Leads.{IsBlend, Leads}
 use Rattle.rs01_turns.specs.Ends.{IsStateBy}
 
--- a drive was asked for some first ones of the sectors that it is asked for to the end
-abbrev pub AskedSome : (sofar all : DriveView) → Type 0
-AskedSome sofar all = (more : List ℕ) × (all.asked ≡ sofar.asked ++ more)
+-- from the start on a drive was asked for some first ones of the sectors that it is asked for to the end
+pub record AskedPart (start sofar all : DriveView) : Type 0 where
+  pub done : List ℕ
+  pub more : List ℕ
+  pub sofar_is : sofar.asked ≡ start.asked ++ done
+  pub all_is : all.asked ≡ sofar.asked ++ more
+
+-- the same of each drive
+abbrev pub AllAskedPart : (start sofar all : List DriveView) → Type 0
+AllAskedPart start sofar all =
+    (k : ℕ) (was is end : DriveView) → slice_get start k ≡ Some was → slice_get sofar k ≡ Some is → slice_get all k ≡ Some end → AskedPart was is end
 
 -- each byte of the sector is the one before or that of the block that the drives give of it
 pub record IsOnTheWay (f g : Moment) (s : ℕ) : Type 0 where
@@ -26,8 +34,7 @@ pub record IsOnTheWay (f g : Moment) (s : ℕ) : Type 0 where
 -- the drives were asked for some first sectors of the rest, and the image file's sectors are as before or on the way
 pub record IsPartOf (f g : Moment) : Type 0 where
   pub number : length (views_of g.rack) ≡ length (rest_of f).views
-  pub asked :
-      (k : ℕ) (sofar all : DriveView) → slice_get (views_of g.rack) k ≡ Some sofar → slice_get (rest_of f).views k ≡ Some all → AskedSome sofar all
+  pub asked : AllAskedPart (views_of f.rack) (views_of g.rack) (rest_of f).views
   pub sectors : IsTrue f.desk.tells → (s : ℕ) → (bytes_at g s ≡ bytes_at f s) ⊎ IsOnTheWay f g s
 
 abbrev pub WhereStopped : Type 0

@@ -14,6 +14,7 @@ use Rattle.rs01_linear.specs.Medium.{Finds, Found, IsFound, IsMedium, found, kno
 use Rattle.rs01_linear.specs.declared.medium.Medium.{Medium}
 use Rattle.rs01_linear.specs.declared.refusal.ReadRefusal.{ReadRefusal}
 use Rattle.rs01_linear.specs.declared.refusal.ReadRefusal.TheVariants as refusal
+use Rattle.rs01_linear.proofs.AnswerLemmas.{numbered}
 use Rattle.rs01_linear.proofs.LastingLemmas.{drive_there, lasts_then, told_before}
 use Rattle.rs01_report.specs.declared.reports.ScanReport.{ScanReport}
 use Rattle.rs01_verify.specs.Fullness.{fullest_of}
@@ -53,7 +54,7 @@ pub scans_stopped : (answer : Result ScanReport ReadRefusal) (why : ReadRefusal)
     → answer ≡ Err why → why ≡ refusal.OutOfMemory
     → Finds (Ok medium) old mid → HasStopped medium mid new → Scans answer old new
 scans_stopped answer why medium old mid new is from finds stopped =
-    rw is (rw from (record { lasts = lasts_then old mid new finds.lasts stopped.lasts; cause = tt }))
+    rw is (rw from (record { number = tt; lasts = lasts_then old mid new finds.lasts stopped.lasts; cause = tt }))
 
 left_by : (o : Result Found ReadRefusal) (file : Option (Option (List ℕ))) (medium : Medium) (old new : List DriveView)
     → IsOkAnd o (IsMedium file medium)
@@ -80,6 +81,7 @@ answer_stopped file answer why medium old mid new is from finds stopped tell fir
 pub scans_all : (medium : Medium) (report : ScanReport) (t : Tally) (old mid new : RackState)
     → Finds (Ok medium) old mid → HasAsked medium medium.extent.sectors mid new t → report.unreadable ≡ t.missing.items → Scans (Ok report) old new
 scans_all medium report t old mid new finds asked is = record {
+  number = numbered medium old mid new finds asked.lasts;
   lasts = lasts_then old mid new finds.lasts asked.lasts;
   cause = λ k b a was there.
       let between = drive_there old.drives mid.drives k b finds.lasts.number was in

@@ -1,5 +1,5 @@
 -- Scanning a medium: each sector is asked for once, in rising order and with one try a drive.
-use Rattle.std.specs.Prelude.{ℕ, zero, suc, ◌≡◌, ◌≤◌, Bool, false, true, List, filter, length, Option, Result, Ok, Err, IsOkAnd}
+use Rattle.std.specs.Prelude.{ℕ, zero, suc, ◌≡◌, ◌≤◌, Bool, false, true, List, filter, length, Option, Result, Ok, Err, IfOk, IsOkAnd}
 use Rattle.std.specs.List.{range_with_len}
 use Rattle.std.specs.Option.{option_map}
 use Rattle.rs01_outside.specs.DriveView.{DriveView}
@@ -8,7 +8,7 @@ use Rattle.rs01_ecchead.specs.Erased.{Known, counts_of}
 use Rattle.rs01_ecchead.specs.Opened.{Opened}
 use Rattle.rs01_linear.specs.Asking.{ask_drives, kind_of}
 use Rattle.rs01_linear.specs.Lasting.{AllRoseBy, RackLasts}
-use Rattle.rs01_linear.specs.Medium.{Found, found}
+use Rattle.rs01_linear.specs.Medium.{Found, Numbered, found}
 use Rattle.rs01_linear.specs.Outcome.{RefusesBy}
 use Rattle.rs01_linear.specs.Refusal.{IsOfMedium}
 use Rattle.rs01_linear.specs.declared.asking.Asked.{Asked}
@@ -81,7 +81,8 @@ abbrev pub HasScanCause : Result ScanReport ReadRefusal → RackState → RackSt
 HasScanCause (Ok report) old new = AllRoseBy (length report.unreadable) old new
 HasScanCause (Err why) old new = RefusesBy {T = ScanReport} (Err why) old new
 
--- what becomes of the drives in a scan, whatever they tell
+-- what becomes of the drives in a scan, whatever they tell: with a report they gave a number of sectors
 pub record Scans (answer : Result ScanReport ReadRefusal) (old new : RackState) : Type 0 where
+  pub number : IfOk answer (λ report. (n : ℕ) × Numbered n old new)
   pub lasts : RackLasts old new
   pub cause : HasScanCause answer old new

@@ -4,8 +4,9 @@ ghost use Rattle.std.specs.Option.{ForSome, option_map};
 ghost use Rattle.rs01_layers.specs.Layout.{layers_of};
 ghost use Rattle.rs01_outside.specs.DeskState.{OnlyReads};
 ghost use Rattle.rs01_rack.specs.Rack.{AllTell, views_of};
+ghost use Rattle.rs01_linear.specs.Medium.{AnswersNamed};
 ghost use Rattle.rs01_linear.specs.Racks.{seen_by};
-ghost use Rattle.rs01_linear.specs.Refusal.{IsOfReading, RefusesSizeAlone, is_read_fault};
+ghost use Rattle.rs01_linear.specs.Refusal.{IsOfReading, is_read_fault};
 ghost use Rattle.rs01_verify.specs.Fullness.{fullest_of};
 ghost use Rattle.rs01_verify.specs.Scan.{IsScanOf, Scans};
 ghost use Rattle.rs01_verify.specs.Scanned.{CountedFor, EndsAsking, IsBare, Keeps, TellsScan, condition_from};
@@ -107,8 +108,9 @@ fn report(medium: &Medium, tally: Tally) -> ScanReport
 /// memory. No file changes.
 ///
 /// Where the desk tells its files and all drives tell in the end, report, asks and refusals are those of the definition,
-/// and after want of memory some first sectors were asked for. Each unreadable sector raised each drive's count of faults.
-/// Every rack meets the condition.
+/// and after want of memory some first sectors were asked for. Whatever the drives tell, each unreadable sector raised each
+/// drive's count of faults, a report is only given where they gave a number of sectors, and where the desk tells its files,
+/// the error correction file is refused or opened as its bytes say. Every rack meets the condition.
 pub fn scan<D: Desk>(
     alloc: Global,
     desk: &mut D,
@@ -120,7 +122,7 @@ pub fn scan<D: Desk>(
     ensures asked { Scans result (seen_by ⟦<dyn Drive as Drive>⟧ rack.old)
         (seen_by ⟦<dyn Drive as Drive>⟧ rack.new) }
     ensures causes { IfErr result IsOfReading }
-    ensures size { IfErr result (RefusesSizeAlone ecc.entry) }
+    ensures answers { AnswersNamed (D.state desk.old) ecc.entry result }
     ensures answer { let drives = seen_by ⟦<dyn Drive as Drive>⟧ in
         IsTrue (D.state desk.old).tells → AllTell (drives rack.new)
         → IsScanOf (option_map (λ name. (D.state desk.old).files name.now) ecc.entry)

@@ -1,3 +1,4 @@
+use Rattle.rs01_linear.proofs.AnswerLemmas.{answers_done, answers_unopened, answers_work, numbered}
 use Rattle.rs01_linear.proofs.LastingLemmas.{lasts_then}
 use Rattle.rs01_linear.proofs.RoseLemmas.{rose_after}
 use Rattle.rs01_adaptive.proofs.BroughtBack.{back_read, none_back}
@@ -73,18 +74,39 @@ pub returns-in_err-prepared-clause-stays : goal.returns-in_err-prepared-clause-s
 returns-in_err-prepared-clause-stays g c =
     let o = c.in_ok-medium.ensures in
     let p = c.in_err-prepared.ensures in
-    stays_unprepared c.args.ecc c.args.image.now c.in_ok-medium.medium _ _ _ _ _ _ _ p.works o.reads o.told o.opened p.told
+    stays_unprepared c.args.ecc c.args.image.now c.in_ok-medium.medium _ _ _ _ _ _ _ p.works o.reads o.told o.opened o.given o.asked c.args.rack.now.counted p.told
 
 pub returns-in_err-read_prepared-clause-stays : goal.returns-in_err-read_prepared-clause-stays
 returns-in_err-read_prepared-clause-stays g c =
     let o = c.in_ok-medium.ensures in
     let p = c.in_ok-prepared.ensures in
     let r = c.in_err-read_prepared.ensures in
-    stays_read _ _ _ _ _ _ _ _ _ _ r.told r.lasts o.reads o.told o.opened p.works p.told
+    stays_read _ _ _ _ _ _ _ _ _ _ r.told r.lasts o.reads o.told o.opened o.given o.asked p.works p.told
 
 pub returns-clause-stays : goal.returns-clause-stays
 returns-clause-stays g c =
     let o = c.in_ok-medium.ensures in
     let p = c.in_ok-prepared.ensures in
     let r = c.in_ok-read_prepared.ensures in
-    stays_read _ _ _ _ _ _ _ _ _ _ r.told r.lasts o.reads o.told o.opened p.works p.told
+    stays_read _ _ _ _ _ _ _ _ _ _ r.told r.lasts o.reads o.told o.opened o.given o.asked p.works p.told
+
+pub returns-in_err-medium-clause-answers : goal.returns-in_err-medium-clause-answers
+returns-in_err-medium-clause-answers g c =
+    answers_unopened (g.D.Desk.state c.args.desk.now) c.args.ecc c.from_residual.result _ c.from_residual.ensures.1 c.in_err-medium.ensures.answers
+
+pub returns-in_err-prepared-clause-answers : goal.returns-in_err-prepared-clause-answers
+returns-in_err-prepared-clause-answers g c =
+    answers_work (g.D.Desk.state c.args.desk.now) c.args.ecc c.in_ok-medium.medium c.from_residual-in_err-prepared.result _ c.from_residual-in_err-prepared.ensures.1
+    c.in_err-prepared.ensures.causes c.in_ok-medium.ensures.answers
+
+pub returns-in_err-read_prepared-clause-answers : goal.returns-in_err-read_prepared-clause-answers
+returns-in_err-read_prepared-clause-answers g c =
+    answers_work (g.D.Desk.state c.args.desk.now) c.args.ecc c.in_ok-medium.medium c.from_residual-in_err-read_prepared.result _ c.from_residual-in_err-read_prepared.ensures.1
+    c.in_err-read_prepared.ensures.causes c.in_ok-medium.ensures.answers
+
+pub returns-clause-answers : goal.returns-clause-answers
+returns-clause-answers g c =
+    answers_done (g.D.Desk.state c.args.desk.now) c.args.ecc c.in_ok-medium.medium c.in_ok-read_prepared.field-0 c.in_ok-medium.ensures.answers
+
+pub returns-clause-refused : goal.returns-clause-refused
+returns-clause-refused g c = numbered c.in_ok-medium.medium _ _ _ c.in_ok-medium.ensures.asked c.in_ok-read_prepared.ensures.lasts

@@ -4,6 +4,7 @@ use Rattle.std.proofs.lemmas.Result.{err_from_is_err_and}
 use Rattle.rs01_outside.specs.Files.{Files}
 use Rattle.rs01_linear.specs.Medium.{known_of}
 use Rattle.rs01_linear.specs.Refusal.{IsOfWork}
+use Rattle.rs01_linear.proofs.AnswerLemmas.{answers_done, answers_unopened, answers_work, numbered, plain_numbered, still_lasts}
 use Rattle.rs01_linear.proofs.EndLemmas.{ends_left, ends_read, ends_unopened, ends_unprepared}
 use Rattle.rs01_linear.proofs.LastingLemmas.{lasts_then, told_before}
 use Rattle.rs01_linear.proofs.MarkLemmas.{sized_by}
@@ -63,7 +64,9 @@ pub returns-in_err-prepared-clause-stays : goal.returns-in_err-prepared-clause-s
 returns-in_err-prepared-clause-stays g c = λ t.
     let t1 = subst IsTrue (sym c.in_ok-medium.ensures.reads.tells) t in
     let still = ap (λ (f : Files). f c.args.image.now) (c.in_ok-medium.ensures.reads.unchanged t) in
-    spared_unprepared _ c.in_ok-medium.medium _ _ _ _ _ still (c.in_err-prepared.ensures.told t1) (c.in_ok-medium.ensures.opened t) (c.in_ok-medium.ensures.told t)
+    spared_unprepared _ c.in_ok-medium.medium _ _ _ _ _ still (c.in_err-prepared.ensures.told t1) (c.in_ok-medium.ensures.opened t)
+    (plain_numbered (g.D.Desk.state c.args.desk.now) c.args.ecc c.in_ok-medium.medium _ _ _ c.in_ok-medium.ensures.given c.in_ok-medium.ensures.asked (still_lasts c.in_ok-medium.medium _ _ c.args.rack.now.counted c.in_ok-medium.ensures.asked))
+    (c.in_ok-medium.ensures.told t)
 
 pub returns-in_err-read_prepared-clause-stays : goal.returns-in_err-read_prepared-clause-stays
 returns-in_err-read_prepared-clause-stays g c = λ t.
@@ -74,6 +77,7 @@ returns-in_err-read_prepared-clause-stays g c = λ t.
     (c.in_err-read_prepared.ensures.told.stays _ t2
     (guards_prepared (known_of c.in_ok-medium.medium) _ _ c.in_ok-prepared.prepared (sized_by c.in_ok-medium.medium.extent _) (c.in_ok-prepared.ensures.told t1)))
     (c.in_ok-medium.ensures.opened t)
+    (plain_numbered (g.D.Desk.state c.args.desk.now) c.args.ecc c.in_ok-medium.medium _ _ _ c.in_ok-medium.ensures.given c.in_ok-medium.ensures.asked c.in_err-read_prepared.ensures.lasts)
     (λ tell. c.in_ok-medium.ensures.told t (told_before _ _ c.in_err-read_prepared.ensures.lasts tell))
 
 pub returns-clause-stays : goal.returns-clause-stays
@@ -85,4 +89,26 @@ returns-clause-stays g c = λ t.
     (c.in_ok-read_prepared.ensures.told.stays _ t2
     (guards_prepared (known_of c.in_ok-medium.medium) _ _ c.in_ok-prepared.prepared (sized_by c.in_ok-medium.medium.extent _) (c.in_ok-prepared.ensures.told t1)))
     (c.in_ok-medium.ensures.opened t)
+    (plain_numbered (g.D.Desk.state c.args.desk.now) c.args.ecc c.in_ok-medium.medium _ _ _ c.in_ok-medium.ensures.given c.in_ok-medium.ensures.asked c.in_ok-read_prepared.ensures.lasts)
     (λ tell. c.in_ok-medium.ensures.told t (told_before _ _ c.in_ok-read_prepared.ensures.lasts tell))
+
+pub returns-in_err-medium-clause-answers : goal.returns-in_err-medium-clause-answers
+returns-in_err-medium-clause-answers g c =
+    answers_unopened (g.D.Desk.state c.args.desk.now) c.args.ecc c.from_residual.result _ c.from_residual.ensures.1 c.in_err-medium.ensures.answers
+
+pub returns-in_err-prepared-clause-answers : goal.returns-in_err-prepared-clause-answers
+returns-in_err-prepared-clause-answers g c =
+    answers_work (g.D.Desk.state c.args.desk.now) c.args.ecc c.in_ok-medium.medium c.from_residual-in_err-prepared.result _ c.from_residual-in_err-prepared.ensures.1
+    c.in_err-prepared.ensures.causes c.in_ok-medium.ensures.answers
+
+pub returns-in_err-read_prepared-clause-answers : goal.returns-in_err-read_prepared-clause-answers
+returns-in_err-read_prepared-clause-answers g c =
+    answers_work (g.D.Desk.state c.args.desk.now) c.args.ecc c.in_ok-medium.medium c.from_residual-in_err-read_prepared.result _ c.from_residual-in_err-read_prepared.ensures.1
+    c.in_err-read_prepared.ensures.causes c.in_ok-medium.ensures.answers
+
+pub returns-clause-answers : goal.returns-clause-answers
+returns-clause-answers g c =
+    answers_done (g.D.Desk.state c.args.desk.now) c.args.ecc c.in_ok-medium.medium c.in_ok-read_prepared.field-0 c.in_ok-medium.ensures.answers
+
+pub returns-clause-refused : goal.returns-clause-refused
+returns-clause-refused g c = numbered c.in_ok-medium.medium _ _ _ c.in_ok-medium.ensures.asked c.in_ok-read_prepared.ensures.lasts
