@@ -1,6 +1,6 @@
 -- Giving the input of the next layer.
-use Rattle.std.proofs.Common.{◌≡◌, ℕ, suc, ◌+◌, ◌-◌, ◌<◌, ◌≤◌, Bool, refl, List, [], ◌∷◌, ◌++◌, length, get_or, sym, ap, subst, ◌∙◌, arith}
-use Rattle.std.specs.Prelude.{IfErr, IfOk, IfSome, IsTrue, Option, Some, None, Result, Ok, Err}
+use Rattle.std.proofs.Common.{◌≡◌, ℕ, suc, ◌+◌, ◌-◌, ◌<◌, ◌≤◌, Bool, refl, List, [], ◌∷◌, ◌++◌, length, get_or, sym, ap, subst, ◌∙◌, arith, false}
+use Rattle.std.specs.Prelude.{All, IfErr, IfOk, IfSome, IsTrue, Option, Some, None, Result, Ok, Err}
 use Rattle.std.specs.Global.{Vec}
 use Rattle.std.specs.List.{range_with_len}
 use Rattle.std.proofs.Math.ListN.{get_or-append}
@@ -45,14 +45,15 @@ ahead_of state image plan next before after x e ahead =
 
 pub given : (state : DeskState) (image : List ℕ) (plan : Plan) (before after : List (Vec ℕ)) (x : Vec ℕ) (old new : Course) (input : LayerInput)
     → before ≡ after ++ x ∷ [] → IsAhead state image plan old.next before → input.layer ≡ old.next → input.parity_count ≡ plan.shape.parity
-    → input.data_ ≡ x.items → new.next ≡ old.next + 1 → new.window.items ≡ after → GivesInput state image plan old new input
-given state image plan before after x old new input e ahead number parity data_is next rest =
+    → All (λ flag. flag ≡ false) input.erased → input.data_ ≡ x.items → new.next ≡ old.next + 1 → new.window.items ≡ after → GivesInput state image plan old new input
+given state image plan before after x old new input e ahead number parity flags data_is next rest =
     let count : length before ≡ length after + 1 = ap length e ∙ length-append after (x ∷ []) in
     let r = plan.shape.parity in
     record {
       layer_is = number;
       next = next;
       parity = parity;
+      flags = flags;
       blocks = λ t of.
           let l : old.next + length before - 1 - length after ≡ input.layer = omega (arith, count, number) in
           let held = ahead.blocks t of (length after) x (omega (arith, count)) in

@@ -34,9 +34,11 @@ pub record IsStarted (image ecc : List ℕ) (r : ℕ) (old now : DeskState) (fou
   pub work : AtWork (moment now image ecc found.plan (faults_of now) course)
   pub none : course.next ≡ course.first
 
--- the parity of the next layers may be added
-abbrev pub CanAdd : (image ecc : List ℕ) → Plan → DeskState → Course → Type 0
-CanAdd image ecc plan state course = AtWork (moment state image ecc plan (faults_of state) course)
+-- the parity of the next layers may be added: the work goes on, and no input was given whose parity doesn't stand in the
+-- file
+pub record CanAdd (image ecc : List ℕ) (plan : Plan) (state : DeskState) (course : Course) : Type 0 where
+  pub at_work : AtWork (moment state image ecc plan (faults_of state) course)
+  pub none : course.next ≡ course.first
 
 -- the parity of the layers was added from a course on: of all of them, or until the work stopped
 pub record AreAdded {T : Type 0} (image ecc : List ℕ) (plan : Plan) (old : DeskState) (before : Course) (new : DeskState) (after : Course) (added : Result T CreateRefusal) : Type 0 where

@@ -12,7 +12,10 @@ leads-same m = record {
   kept = refl;
   tells = refl;
   elsewhere = λ t other apart. refl;
+  reads_later = omega arith;
+  writes_later = omega arith;
   onward = omega arith;
+  given_onward = omega arith;
 }
 
 pub leads-on : (a b c : Moment) → Leads a b → Leads b c → Leads a c
@@ -24,7 +27,10 @@ leads-on a b c one other = record {
   tells = other.tells ∙ one.tells;
   elsewhere = λ t name apart.
       other.elsewhere (subst IsTrue (sym one.tells) t) name (λ same. apart (same ∙ one.ecc)) ∙ one.elsewhere t name apart;
+  reads_later = omega (arith, one.reads_later, other.reads_later);
+  writes_later = omega (arith, one.writes_later, other.writes_later);
   onward = omega (arith, one.onward, other.onward);
+  given_onward = omega (arith, one.given_onward, other.given_onward);
 }
 
 pub left-falls : (a b : Moment) → Leads a b → layers b.plan - b.course.first ≤ layers a.plan - a.course.first

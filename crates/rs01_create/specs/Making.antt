@@ -1,5 +1,5 @@
 -- How far the making of a file has come: what its steps need, and what they leave.
-use Rattle.std.specs.Prelude.{ℕ, ◌≡◌, ◌≢◌, ◌+◌, ◌-◌, ◌*◌, ◌≤◌, Bool, IsTrue, List, ◌++◌, All, length, map, not, Option, Some, Err}
+use Rattle.std.specs.Prelude.{ℕ, ◌≡◌, ◌≢◌, ◌+◌, ◌-◌, ◌*◌, ◌≤◌, ◌<◌, Bool, false, IsTrue, List, ◌++◌, All, length, map, not, Option, Some, Err}
 use Rattle.std.specs.Global.{Vec}
 use Rattle.std.specs.List.{flat_map, range_with_len}
 use Rattle.md5.specs.Md5.{Holds}
@@ -102,13 +102,16 @@ pub record HasStopped (m : Moment) (why : CreateRefusal) : Type 0 where
   pub counts : CountsAs m.kept m.state (is_read_fault {T = Unit {0}} (Err why)) (is_write_fault {T = Unit {0}} (Err why))
   pub headless : IsTrue m.state.tells → IsHeadless (m.state.files m.ecc)
 
--- an input that was given: its blocks are those of its layer
+-- an input that was given: it is of one of the layers, no place is flagged, and its blocks are those of its layer
 pub record Fits (m : Moment) (input : LayerInput) : Type 0 where
+  pub below : input.layer < layers m.plan
   pub parity : input.parity_count ≡ m.plan.shape.parity
+  pub flags : All (λ flag. flag ≡ false) input.erased
   pub blocks : InFile m.state m.image (λ file. IsExtentOf file m.plan.extent
       → blocks_of (255 - m.plan.shape.parity) input.data_ ≡ layer file m.plan.shape.parity input.layer)
 
--- what the steps leave: names, plan and kept counts, every other file, and what stands in the file
+-- what the steps leave: names, plan and kept counts, and every other file. No count of faults fell, and what was given and
+-- what stands in the file went on
 pub record Leads (old new : Moment) : Type 0 where
   pub image : new.image ≡ old.image
   pub ecc : new.ecc ≡ old.ecc
@@ -116,7 +119,10 @@ pub record Leads (old new : Moment) : Type 0 where
   pub kept : new.kept ≡ old.kept
   pub tells : new.state.tells ≡ old.state.tells
   pub elsewhere : IsTrue old.state.tells → SameElsewhere old.ecc old.state.files new.state.files
+  pub reads_later : old.state.read_faults ≤ new.state.read_faults
+  pub writes_later : old.state.write_faults ≤ new.state.write_faults
   pub onward : old.course.first ≤ new.course.first
+  pub given_onward : old.course.next ≤ new.course.next
 
 -- a window was given and worked: the layers of the course that don't stand in the file, and the parity of each
 pub record IsWorked (m : Moment) (worked : Worked) : Type 0 where

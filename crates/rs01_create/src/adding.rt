@@ -1,5 +1,5 @@
 //! Adding the parity of all layers window by window, on one thread and by several.
-ghost use Rattle.std.specs.Prelude.{◌≡◌, ◌<◌};
+ghost use Rattle.std.specs.Prelude.{◌<◌};
 ghost use Rattle.rs01_create.specs.Creating.{AreAdded, CanAdd};
 
 use crate::course::{Course, Faults};
@@ -13,7 +13,7 @@ use std::alloc::Global;
 use std::sync::Wait;
 use std::thread::Threads;
 
-// Adds the parity of all layers to a file that was begun, a window of up to 64 layers at a time.
+// Adds the parity of all layers to a file that was begun, window by window.
 pub fn add_layers_one<D: Desk>(
     alloc: Global,
     desk: &mut D,
@@ -24,7 +24,6 @@ pub fn add_layers_one<D: Desk>(
     course: &mut Course,
 ) -> Result<(), CreateRefusal>
     requires work { CanAdd image.now ecc.now plan.now (D.state desk.old) course.old }
-    requires none { course.old.next ≡ course.old.first }
     ensures { AreAdded image.now ecc.now plan.now
         (D.state desk.old) course.old (D.state desk.new) course.new result }
 {
@@ -61,7 +60,6 @@ pub fn add_layers<R: Threads + Wait + Sync, D: Desk, G: Gate>(
 ) -> Result<(), CreateRefusal>
     requires some { 0 < workers }
     requires work { CanAdd image.now ecc.now plan.now (D.state desk.old) course.old }
-    requires none { course.old.next ≡ course.old.first }
     ensures { AreAdded image.now ecc.now plan.now
         (D.state desk.old) course.old (D.state desk.new) course.new result }
 {

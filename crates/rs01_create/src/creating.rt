@@ -39,7 +39,7 @@ fn finish<D: Desk>(
 /// Makes the error correction file of an image, with `parity` parity bytes in a codeword of 255, under the name `ecc`, on
 /// the caller's thread.
 ///
-/// The image is read twice: once in order, for its checksums and digests, and then a window of up to 64 layers at a time.
+/// The image is read twice: once in order, for its checksums and digests, and then 32 layers at a time.
 /// What is held at once is bounded by a window, but for four bytes a sector. The refusals that come from the image are
 /// told in their order before anything is written, and then no file has changed. Then the name is made, 4096 zeros are
 /// written, then the body, and the header last. No other file changes. After a fault or want of memory the file under

@@ -1,5 +1,5 @@
 //! Giving the inputs of layers, whose blocks are read a window ahead.
-ghost use Rattle.std.specs.Prelude.{◌≡◌, ◌+◌, ◌-◌, ◌*◌, ◌<◌, IfErr, IfNone, IfOk, IfSome, OnOk, length};
+ghost use Rattle.std.specs.Prelude.{◌≡◌, ◌+◌, ◌-◌, ◌*◌, ◌<◌, All, IfErr, IfNone, IfOk, IfSome, OnOk, false, length};
 ghost use Rattle.rs01_outside.specs.DeskState.{OnlyReads};
 ghost use Rattle.rs01_ecchead.specs.Walked.{is_walk_fault};
 ghost use Rattle.rs01_create.specs.Answer.{is_read_fault};
@@ -15,7 +15,11 @@ use rs01_layers::{Bytes, Flags, LayerInput, SumList};
 use rs01_outside::Desk;
 use std::alloc::{AllocError, Global};
 
-// Reads the blocks of up to 64 layers from `next` on, where none are left of those that were read.
+// How many layers are read at once: few enough that others encode them while the next ones of the same window are read, and
+// so many that 64 MiB take no more than 3,000 calls of the system.
+const MOST: u32 = 32;
+
+// Reads the blocks of the next layers from `next` on, where none are left of those that were read.
 fn read_ahead<D: Desk>(
     alloc: Global,
     desk: &mut D,
@@ -32,7 +36,7 @@ fn read_ahead<D: Desk>(
         (IsAhead (D.state desk.new) image.now plan.now next window.new.items) }
 {
     if window.is_empty() {
-        let count = (plan.shape.layers() - next).min(64);
+        let count = (plan.shape.layers() - next).min(MOST);
         *window = read_window(alloc, desk, image, plan, next, count)?;
     }
     Ok(())
@@ -48,6 +52,7 @@ fn layer_input(
     requires { length blocks.items ≡ 2048 * (255 - plan.now.shape.parity) }
     ensures layer { IfOk result (λ input. input.layer ≡ layer) }
     ensures parity { IfOk result (λ input. input.parity_count ≡ plan.now.shape.parity) }
+    ensures flags { IfOk result (λ input. All (λ flag. flag ≡ false) input.erased) }
     ensures blocks { IfOk result (λ input. input.data_ ≡ blocks.items) }
 {
     let places = plan.shape.data() as usize;

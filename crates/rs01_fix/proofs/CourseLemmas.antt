@@ -97,10 +97,10 @@ ecc_changed found image ecc old new failed differ changes e has = record {
 
 -- work that changes the image file
 pub goes_changed : (found : Found) (image ecc : List ℕ) (old new : DeskState) (before after : Course) (failed : Bool) → (image ≡ ecc → ⊥) → OnlyChanges image old new failed
-    → after.reads ≡ before.reads → after.writes ≡ before.writes → before.start ≤ after.start
+    → after.reads ≡ before.reads → after.writes ≡ before.writes → before.start ≤ after.start → before.batch.next ≤ after.batch.next
     → ((e y : List ℕ) (size : length y ≡ found.size) → HasEcc found e old ecc → IsUpTo found (sources found e y size) image old before → IsUpTo found (sources found e y size) image new after)
     → GoesOn found image ecc old before new after
-goes_changed found image ecc old new before after failed differ changes reads writes start story = record {
+goes_changed found image ecc old new before after failed differ changes reads writes start given story = record {
   tells = changes.tells;
   elsewhere = changes.elsewhere;
   reads_later = omega (arith, changes.reads);
@@ -108,14 +108,15 @@ goes_changed found image ecc old new before after failed differ changes reads wr
   reads_kept = reads;
   writes_kept = writes;
   start_later = start;
+  given_later = given;
   ecc_stays = ecc_changed found image ecc old new failed differ changes;
   story = story;
 }
 
 -- work that reads the next layers
-pub goes_read : (found : Found) (image ecc : List ℕ) (old new : DeskState) (course : Course) (batch : Batch) (failed : Bool) → OnlyReads old new failed
+pub goes_read : (found : Found) (image ecc : List ℕ) (old new : DeskState) (course : Course) (batch : Batch) (failed : Bool) → OnlyReads old new failed → course.batch.next ≤ batch.next
     → GoesOn found image ecc old course new (record course { batch = batch })
-goes_read found image ecc old new course batch failed reads = record {
+goes_read found image ecc old new course batch failed reads next = record {
   tells = reads.tells;
   elsewhere = λ t other apart. ap (λ (f : Files). f other) (reads.unchanged t);
   reads_later = reads.later;
@@ -123,6 +124,7 @@ goes_read found image ecc old new course batch failed reads = record {
   reads_kept = refl;
   writes_kept = refl;
   start_later = omega arith;
+  given_later = next;
   ecc_stays = λ e has. ecc_read found e old new ecc failed reads has;
   story = λ e y size has up.
       let same : old.files image ≡ new.files image = ap (λ (f : Files). f image) (sym (reads.unchanged has.tells)) in
@@ -133,6 +135,12 @@ goes_read found image ecc old new course batch failed reads = record {
         kept = up.kept;
       };
 }
+
+-- the list of given layers goes on
+pub next_later : (found : Found) (image ecc : List ℕ) (state : DeskState) (old new : Batch) (next : Option LayerInput) → IfSome next (GivesNext found image ecc state old new)
+    → IfNone next (HasNoNext found image ecc state old new) → old.next ≤ new.next
+next_later found image ecc state old new (Some input) gives none = omega (arith, gives.next)
+next_later found image ecc state old new None gives none = omega (arith, none.same)
 
 -- an input that fits still does
 pub fits_read : (found : Found) (image ecc : List ℕ) (old new : DeskState) (input : LayerInput) (failed : Bool) → OnlyReads old new failed → Fits found image ecc old input → Fits found image ecc new input

@@ -16,6 +16,7 @@ goes_same found image ecc state course = record {
   reads_kept = refl;
   writes_kept = refl;
   start_later = omega arith;
+  given_later = omega arith;
   ecc_stays = λ e has. has;
   story = λ e y size has up. up;
 }
@@ -30,6 +31,7 @@ goes_then found image ecc a p b q c r one other = record {
   reads_kept = other.reads_kept ∙ one.reads_kept;
   writes_kept = other.writes_kept ∙ one.writes_kept;
   start_later = omega (arith, one.start_later, other.start_later);
+  given_later = omega (arith, one.given_later, other.given_later);
   ecc_stays = λ e has. other.ecc_stays e (one.ecc_stays e has);
   story = λ e y size has up. other.story e y size (one.ecc_stays e has) (one.story e y size has up);
 }

@@ -56,6 +56,11 @@ pub record IsGoing (found : Found) (image ecc : List ℕ) (state : DeskState) (c
   pub room : HasRoom found course.start course.repairs
   pub ready : IsReady found image ecc state course.batch
 
+-- and of which no layer was given since
+pub record CanWork (found : Found) (image ecc : List ℕ) (state : DeskState) (course : Course) : Type 0 where
+  pub going : IsGoing found image ecc state course
+  pub none : given course ≡ []
+
 -- all layers were given, and all windows were settled
 pub record IsDone (found : Found) (image ecc : List ℕ) (state : DeskState) (course : Course) : Type 0 where
   pub going : IsGoing found image ecc state course
@@ -81,7 +86,8 @@ pub record IsUpTo (found : Found) (was : Sources found) (image : List ℕ) (stat
   pub stands : course.whole ≡ true → IsBefore found was course.start 0 (state.files image)
   pub kept : course.whole ≡ true → AreKept found was course.start course.repairs
 
--- a repair went on: no other file changed, no count fell, and the image file still stands as it should
+-- a repair went on: no other file changed, no count fell, what was given went on, and the image file still stands as it
+-- should
 pub record GoesOn (found : Found) (image ecc : List ℕ) (old : DeskState) (before : Course) (new : DeskState) (after : Course) : Type 0 where
   pub tells : new.tells ≡ old.tells
   pub elsewhere : IsTrue old.tells → SameElsewhere image old.files new.files
@@ -90,6 +96,7 @@ pub record GoesOn (found : Found) (image ecc : List ℕ) (old : DeskState) (befo
   pub reads_kept : after.reads ≡ before.reads
   pub writes_kept : after.writes ≡ before.writes
   pub start_later : before.start ≤ after.start
+  pub given_later : before.batch.next ≤ after.batch.next
   pub ecc_stays : (e : List ℕ) → HasEcc found e old ecc → HasEcc found e new ecc
   pub story : (e y : List ℕ) (size : length y ≡ found.size) → HasEcc found e old ecc
       → IsUpTo found (sources found e y size) image old before → IsUpTo found (sources found e y size) image new after

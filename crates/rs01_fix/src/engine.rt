@@ -1,7 +1,7 @@
 //! Working the layers of an image window by window, on one thread and by several.
-ghost use Rattle.std.specs.Prelude.{◌≡◌, ◌<◌, []};
+ghost use Rattle.std.specs.Prelude.{◌<◌};
 ghost use Rattle.rs01_fix.specs.Fixing.{AreWorked};
-ghost use Rattle.rs01_fix.specs.Windows.{IsGoing, given};
+ghost use Rattle.rs01_fix.specs.Windows.{CanWork};
 
 use crate::course::Course;
 use crate::refusal::FixRefusal;
@@ -22,8 +22,7 @@ pub fn work_windows_one<D: Desk>(
     found: &Found,
     course: &mut Course,
 ) -> Result<(), FixRefusal>
-    requires going { IsGoing found.now image.now ecc.now (D.state desk.old) course.old }
-    requires none { given course.old ≡ [] }
+    requires work { CanWork found.now image.now ecc.now (D.state desk.old) course.old }
     ensures { AreWorked found.now image.now ecc.now (D.state desk.old) course.old
         (D.state desk.new) course.new result }
 {
@@ -53,8 +52,7 @@ pub fn work_windows<R: Threads + Wait + Sync, D: Desk, G: Gate>(
     gate: &G,
 ) -> Result<(), FixRefusal>
     requires some { 0 < workers }
-    requires going { IsGoing found.now image.now ecc.now (D.state desk.old) course.old }
-    requires none { given course.old ≡ [] }
+    requires work { CanWork found.now image.now ecc.now (D.state desk.old) course.old }
     ensures { AreWorked found.now image.now ecc.now (D.state desk.old) course.old
         (D.state desk.new) course.new result }
 {

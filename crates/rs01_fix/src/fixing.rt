@@ -62,7 +62,7 @@ fn finish<D: Desk>(
 /// Repairs the image under the name `image` by the error correction file under `ecc`, on the caller's thread. With `cut`
 /// the bytes past the image are cut.
 ///
-/// Up to 64 neighbouring layers are read at a time, each of their places by one call of the desk, and then settled: the
+/// Up to 16 neighbouring layers are read at a time, each of their places by one call of the desk, and then settled: the
 /// layers are taken in rising order, and in each its sectors. Memory is asked for one such window, and for some bytes
 /// for each sector. A sector is absent where the file was too short for it at the start. Each sector that changes goes
 /// out by one write of its own: the restored bytes of a layer that is restored, and the markers of the absent sectors of

@@ -290,7 +290,7 @@ fn repair_three(rt: &impl Abort, alloc: Global, sectors: u32) -> Result<(), Fail
     Ok(())
 }
 
-// Images of 64, 65, 128 and 129 layers, of which 64 are read at a time.
+// Images of 64, 65, 128 and 129 layers, of which 16 are read at a time.
 #[test]
 fn damage_at_the_edge_of_a_window(rt: HostRuntime) -> Result<(), Fail> {
     repair_three(&rt, rt.alloc(), 9920)?;
@@ -372,10 +372,10 @@ impl Desk for Ordered {
     }
 }
 
-// The image is cut so that sectors of both windows are absent. The second window is read after the first one's writes, by
-// which the file has grown already.
+// The image is cut so that sectors of all five windows are absent. The later windows are read after the first one's writes,
+// by which the file has grown already.
 #[test]
-fn absent_in_two_windows(rt: HostRuntime) -> Result<(), Fail> {
+fn absent_in_five_windows(rt: HostRuntime) -> Result<(), Fail> {
     let mut desk = Ordered {
         desk: large(rt.alloc(), 9921)?,
         wrote: false,
@@ -394,15 +394,15 @@ fn absent_in_two_windows(rt: HostRuntime) -> Result<(), Fail> {
     Ok(())
 }
 
-// Calls that fail in either window. After the fault a second repair goes on.
+// Calls that fail in each window. After the fault a second repair goes on.
 #[test]
-fn calls_failing_in_two_windows(rt: HostRuntime) -> Result<(), Fail> {
+fn calls_failing_in_five_windows(rt: HostRuntime) -> Result<(), Fail> {
     for row in 0..8u64 {
         let mut desk = large(rt.alloc(), 9921)?;
         for sector in [0u64, 64, 9920] {
             assert!(rt; desk.write_at("disc.iso", 2048 * sector, b"!").is_ok());
         }
-        desk.fail_call(3 + 67 * row);
+        desk.fail_call(3 + 134 * row);
         desk.keep_prefix(Some(100));
         let refused = repaired(rt.alloc(), &mut desk, false).err();
         let want = match (desk.read_faults(), desk.write_faults()) {

@@ -14,8 +14,9 @@ use rs01_lists::zeroed;
 use rs01_outside::Desk;
 use std::alloc::{AllocError, Global};
 
-// How many layers are read at once.
-const MOST: u32 = 64;
+// How many layers are read at once: few enough that what is read of them is still in the processor's cache when it is
+// worked, and that others work on them while the next ones of the same window are read.
+const MOST: u32 = 16;
 
 /// Neighbouring layers that were read together: the number of the first one, what was read of each, and their recorded
 /// parity, one layer after the other. Those before `next` were given away.
@@ -70,7 +71,7 @@ fn read_layers<D: Desk>(
     count: u32,
 ) -> Result<Vec<Part>, WalkFault>
     requires layers { first + count ≤ layers_in found.now }
-    requires few { count ≤ 64 }
+    requires few { count ≤ 16 }
     ensures reads { OnlyReads (D.state desk.old) (D.state desk.new) (is_walk_fault result) }
     ensures len { IfOk result (λ parts. length parts.items ≡ count) }
     ensures read { IfOk result (λ parts.
@@ -98,7 +99,7 @@ fn read_parity<D: Desk>(
 ) -> Result<Vec<u8>, WalkFault>
     requires first { IsLayer found.now first }
     requires layers { first + count ≤ layers_in found.now }
-    requires few { count ≤ 64 }
+    requires few { count ≤ 16 }
     ensures reads { OnlyReads (D.state desk.old) (D.state desk.new) (is_walk_fault result) }
     ensures len { IfOk result (λ parity.
         length parity.items ≡ 2048 * found.now.ecc.head.parity * count) }

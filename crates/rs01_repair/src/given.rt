@@ -124,7 +124,7 @@ fn take_next(alloc: Global, found: &Found, batch: &mut Batch) -> Result<LayerInp
     Ok(input)
 }
 
-/// What correcting is given of the next layer, or `None` where none is left. Up to 64 layers are read at once: each place
+/// What correcting is given of the next layer, or `None` where none is left. Up to 16 layers are read at once: each place
 /// of all of them by one call of the desk, and then their parity by one.
 ///
 /// A sector is taken for erased where the image file was too short for it when it was found, or where the block that it

@@ -1,7 +1,7 @@
 //! Work on the caller's thread.
-ghost use Rattle.std.specs.Prelude.{◌≡◌, [], IfErr, IfOk, OnOk};
+ghost use Rattle.std.specs.Prelude.{◌≡◌, ◌≤◌, [], IfErr, IfOk, OnOk};
 ghost use Rattle.rs01_layers.specs.declared.input.LayerInput.{LayerInput};
-ghost use Rattle.rs01_workers.specs.Work.{Stands, Works};
+ghost use Rattle.rs01_workers.specs.Work.{Stands, Works, WorksTo};
 
 use crate::filler::Filler;
 use crate::results::{Results, WindowStop};
@@ -9,25 +9,29 @@ use crate::windows::Windows;
 use rs01_layers::LayerTask;
 use std::alloc::Global;
 
-/// Asks a filler for inputs until it has none left or gave 64, and works each of them on the
-/// caller's thread before it asks for the next.
-///
-/// It stops where the filler does, and where memory runs out. Then nothing is kept of the inputs.
-pub fn work_one<T: LayerTask, F: Filler>(
+// How many layers a window has where all windows are worked on one thread. What is read of so few
+// is still in the processor's cache when it is worked, and takes a quarter of a whole window's memory.
+const FEW: u32 = 16;
+
+// Asks a filler for inputs until it has none left or gave so many, and works each of them.
+fn work_some<T: LayerTask, F: Filler>(
     alloc: Global,
     task: &T,
     fill: &mut F,
+    most: u32,
 ) -> Result<Results, WindowStop<F::Stop>>
+    requires most { most ≤ 64 }
     requires going { F.going fill.old }
     requires fit { (f : F) (input : LayerInput) → F.fits f input → T.fit input }
     ensures leads { F.leads fill.old fill.new }
-    ensures works { IfOk result (Works F.gave F.fits F.going F.done T.value fill.old fill.new) }
+    ensures works { let done = F.done in
+        IfOk result (WorksTo most F.gave F.fits F.going done T.value fill.old fill.new) }
     ensures stands { IfErr result (Stands F.going F.done F.halted fill.new) }
 {
     let mut inputs = Vec::new(alloc);
     let mut outs = Vec::new(alloc);
     let mut count = 0u32;
-    while count < 64 {
+    while count < most {
         match fill.next(alloc) {
             Ok(Some(input)) => {
                 let Ok(out) = task.work(alloc, &input) else {
@@ -45,7 +49,25 @@ pub fn work_one<T: LayerTask, F: Filler>(
     Ok(Results::of(inputs, outs, false))
 }
 
-/// Works all layers, window by window, on the caller's thread.
+/// Asks a filler for inputs until it has none left or gave 64, and works each of them on the
+/// caller's thread before it asks for the next.
+///
+/// It stops where the filler does, and where memory runs out. Then nothing is kept of the inputs.
+pub fn work_one<T: LayerTask, F: Filler>(
+    alloc: Global,
+    task: &T,
+    fill: &mut F,
+) -> Result<Results, WindowStop<F::Stop>>
+    requires going { F.going fill.old }
+    requires fit { (f : F) (input : LayerInput) → F.fits f input → T.fit input }
+    ensures leads { F.leads fill.old fill.new }
+    ensures works { IfOk result (Works F.gave F.fits F.going F.done T.value fill.old fill.new) }
+    ensures stands { IfErr result (Stands F.going F.done F.halted fill.new) }
+{
+    work_some(alloc, task, fill, 64)
+}
+
+/// Works all layers on the caller's thread, window by window, of 16 layers each.
 ///
 /// It stops where the filler or the taking of a window's answers does, and where memory runs out.
 pub fn work_all_one<T: LayerTask, W: Windows<T>>(
@@ -60,7 +82,7 @@ pub fn work_all_one<T: LayerTask, W: Windows<T>>(
     ensures stands { IfErr result (Stands W.going W.done W.halted windows.new) }
 {
     loop {
-        let results = work_one(alloc, task, windows)?;
+        let results = work_some(alloc, task, windows, FEW)?;
         let over = results.over();
         match windows.settle(alloc, results) {
             Ok(()) => {}

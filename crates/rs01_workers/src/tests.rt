@@ -199,10 +199,11 @@ fn windows_of<R: Threads + Wait + Sync>(
 fn windows_follow_until_no_input_is_left(rt: HostRuntime) -> Result<(), Fail> {
     let alloc = rt.alloc();
     assert_eq!(rt; windows_one(alloc, 0, 9), (1, false));
-    assert_eq!(rt; windows_one(alloc, 64, 99), (2, false));
-    assert_eq!(rt; windows_one(alloc, 65, 99), (2, false));
-    assert_eq!(rt; windows_one(alloc, 129, 200), (3, false));
-    assert_eq!(rt; windows_one(alloc, 129, 100), (1, true));
+    assert_eq!(rt; windows_one(alloc, 15, 99), (1, false));
+    assert_eq!(rt; windows_one(alloc, 16, 99), (2, false));
+    assert_eq!(rt; windows_one(alloc, 65, 99), (5, false));
+    assert_eq!(rt; windows_one(alloc, 129, 200), (9, false));
+    assert_eq!(rt; windows_one(alloc, 129, 100), (6, true));
     Ok(())
 }
 

@@ -164,15 +164,16 @@ fn the_image_is_read_by_windows(rt: HostRuntime) -> Result<(), Fail> {
     create_one(rt.alloc(), &mut desk, "disc.iso", "disc.ecc", 100)?;
     assert_eq!(rt;
         (desk.reads, desk.reads_after_parity),
-        (156 + 153 + 152, 152)
+        (156 + 153 + 153 + 152, 153 + 152)
     );
     Ok(())
 }
 
 #[test]
-fn calls_failing_over_two_windows(rt: HostRuntime) -> Result<(), Fail> {
-    // The calls on the same image are size, 156 reads for the checksums, make, the writes of zeros and checksums, 153
-    // reads and a write for the first window, 152 and one for the second, and the write of the header.
+fn calls_failing_over_five_windows(rt: HostRuntime) -> Result<(), Fail> {
+    // The calls on the same image are size, 156 reads for the checksums, make, the writes of zeros and checksums, twice 153
+    // reads for 32 layers and the writes of two windows, 152 reads and a write for the last layer, and the write of the
+    // header.
     let cases: [(u64, CreateRefusal, Option<usize>); 12] = [
         (0, CreateRefusal::ReadFault, None),
         (1, CreateRefusal::ReadFault, None),
@@ -183,9 +184,9 @@ fn calls_failing_over_two_windows(rt: HostRuntime) -> Result<(), Fail> {
         (160, CreateRefusal::ReadFault, Some(43_780)),
         (312, CreateRefusal::ReadFault, Some(43_780)),
         (313, CreateRefusal::WriteFault, Some(43_780)),
-        (465, CreateRefusal::ReadFault, Some(13_150_980)),
-        (466, CreateRefusal::WriteFault, Some(13_150_980)),
-        (467, CreateRefusal::WriteFault, Some(13_355_780)),
+        (621, CreateRefusal::ReadFault, Some(13_150_980)),
+        (622, CreateRefusal::WriteFault, Some(13_150_980)),
+        (623, CreateRefusal::WriteFault, Some(13_355_780)),
     ];
     let image = scrambled(rt.alloc(), 9921 * 2048)?;
     for (call, want, left) in cases {
@@ -197,7 +198,7 @@ fn calls_failing_over_two_windows(rt: HostRuntime) -> Result<(), Fail> {
         assert_eq!(rt; made_len(&desk), left, "call {call}");
     }
     let mut desk = desk_with(rt.alloc(), &image)?;
-    desk.fail_call(468);
+    desk.fail_call(624);
     assert!(rt; create_one(rt.alloc(), &mut desk, "disc.iso", "disc.ecc", 100).is_ok());
     Ok(())
 }

@@ -24,7 +24,7 @@ returns-in-Err-clause-goes g c =
     let found = c.args.found.now in
     let old = g.D.Desk.state c.args.desk.now in
     let course = c.args.course.now in
-    goes_changed found c.args.image.now c.args.ecc.now old (g.D.Desk.state c.put_window.new.desk) course _ true c.requires.going.differ c.in-Err.ensures.changes refl refl (omega arith)
+    goes_changed found c.args.image.now c.args.ecc.now old (g.D.Desk.state c.put_window.new.desk) course _ true c.requires.going.differ c.in-Err.ensures.changes refl refl (omega arith) (omega arith)
     (λ e y size has up.
     let was = sources found e y size in
     let before = up.stands c.requires.going.whole in
@@ -37,7 +37,7 @@ returns-in_err-keep_window-in-Ok-clause-goes g c =
     let old = g.D.Desk.state c.args.desk.now in
     let new = g.D.Desk.state c.put_window.new.desk in
     let course = c.args.course.now in
-    goes_changed found c.args.image.now c.args.ecc.now old new course _ false c.requires.going.differ c.in-Ok.ensures.changes refl refl (omega arith)
+    goes_changed found c.args.image.now c.args.ecc.now old new course _ false c.requires.going.differ c.in-Ok.ensures.changes refl refl (omega arith) (omega arith)
     (λ e y size has up.
     let was = sources found e y size in
     let before = up.stands c.requires.going.whole in
@@ -51,7 +51,7 @@ returns-in_ok-keep_window-in-Ok-clause-goes g c =
     let old = g.D.Desk.state c.args.desk.now in
     let new = g.D.Desk.state c.put_window.new.desk in
     let course = c.args.course.now in
-    goes_changed found c.args.image.now c.args.ecc.now old new course _ false c.requires.going.differ c.in-Ok.ensures.changes refl refl (omega (arith, c.requires.going.order))
+    goes_changed found c.args.image.now c.args.ecc.now old new course _ false c.requires.going.differ c.in-Ok.ensures.changes refl refl (omega (arith, c.requires.going.order)) (omega (arith, c.new.ensures.next))
     (λ e y size has up.
     let was = sources found e y size in
     let before = up.stands c.requires.going.whole in

@@ -1,7 +1,7 @@
 use Rattle.std.proofs.Common.{◌≡◌, ◌-◌, ◌≤◌, ◌++◌, length, map}
 use Rattle.std.specs.List.{All}
 use Rattle.rs01_workers.specs.Work.{layers_in}
-use Rattle.rs01_workers.proofs.alone.work_one.Given as goal
+use Rattle.rs01_workers.proofs.alone.work_some.Given as goal
 
 -- the filler gave these inputs, and each was worked
 pub record Working (g : goal.Over) (l : goal.Live-loop-count g) : Type 0 where
@@ -12,10 +12,10 @@ pub record Working (g : goal.Over) (l : goal.Live-loop-count g) : Type 0 where
   pub values : l.outs.items ≡ map g.T.LayerTask.value l.inputs.items
   pub long : length l.inputs.items ≡ l.count
   pub paired : length l.outs.items ≡ l.count
-  pub small : l.count ≤ 64
+  pub small : l.count ≤ l.most
 
 abbrev pub invariant-loop-count : goal.invariant-loop-count
 invariant-loop-count g l = Working g l
 
 abbrev pub decreases-loop-count : goal.decreases-loop-count
-decreases-loop-count g l = 64 - l.count
+decreases-loop-count g l = l.most - l.count
