@@ -8,6 +8,7 @@ pub mod ColumnsKept
 pub mod Laid
 pub mod UnitPlaces
 pub mod UnitWords
+pub mod UnitValues
 pub mod LinearPrograms
 pub mod Known
 pub mod Riffles

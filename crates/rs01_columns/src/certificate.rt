@@ -89,16 +89,17 @@ fn hold_parity(bank: &[u8], r: usize, data_: &mut [u8], parity: &mut [u8]) -> bo
     true
 }
 
-// Whether the lane of a unit word holds its values at the first roots.
-fn holds_values(bank: &[u8], place: usize, word: &mut [u8], r: usize) -> bool
-    requires word { length word.old ≡ 255 }
+// Whether the lane of a unit word holds its values at the first roots. Its polynomial is a power of x, so these are
+// powers of the roots.
+fn holds_values(bank: &[u8], place: usize, r: usize) -> bool
     requires place { place < 255 }
     requires columns { HasValueColumns r bank.now }
     ensures { IsTrue result → UnitLaneHolds bank.now 255 255 r root_values place }
 {
-    write_unit_word(word, place);
+    let exponent = 254 - place as u32;
     for j in 0..r {
-        if bank[1088 * (255 + j) + place] != eval(word, pow_root(112 + j as u32)).0 {
+        let value = pow_root((112 + j as u32) * exponent);
+        if bank[1088 * (255 + j) + place] != value.0 {
             return false;
         }
     }
@@ -106,13 +107,12 @@ fn holds_values(bank: &[u8], place: usize, word: &mut [u8], r: usize) -> bool
 }
 
 // Whether the lanes of the unit words do.
-fn hold_values(bank: &[u8], word: &mut [u8], r: usize) -> bool
-    requires word { length word.old ≡ 255 }
+fn hold_values(bank: &[u8], r: usize) -> bool
     requires columns { HasValueColumns r bank.now }
     ensures { IsTrue result → UnitLanesHold bank.now 255 255 r root_values }
 {
-    for place in 0..word.len() {
-        if !holds_values(bank, place, word, r) {
+    for place in 0..255usize {
+        if !holds_values(bank, place, r) {
             return false;
         }
     }
@@ -163,6 +163,5 @@ pub fn evaluates(alloc: Global, kept: &KeptProgram) -> Result<bool, AllocError>
     ensures { IfOk result (λ holds. IsTrue holds → IsEvaluator kept.now) }
 {
     let bank = bank_of_units(alloc, &kept.program, &kept.products, 255)?;
-    let mut word = [0u8; 255];
-    Ok(hold_values(&bank, &mut word, kept.parity_count))
+    Ok(hold_values(&bank, kept.parity_count))
 }
