@@ -8,6 +8,7 @@ mod HeadFaults
 mod Linears
 mod MediumFaults
 mod Readings
+mod Restorings
 mod Scans
 mod Turns
 mod Verifies

@@ -10,3 +10,4 @@ pub mod Turned
 pub mod Demo
 pub mod Asked
 pub mod Run
+pub mod Restoring

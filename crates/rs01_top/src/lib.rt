@@ -4,6 +4,7 @@
 mod commands;
 mod ending;
 mod faults;
+pub mod laws;
 mod running;
 
 pub use running::{run, run_one};

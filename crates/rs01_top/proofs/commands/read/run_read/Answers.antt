@@ -13,6 +13,6 @@ returns-in-Ok g c = record {
 pub returns-in-Err : goal.returns-in-Err
 returns-in-Err g c = record {
   run = not_read_by c.args.image.now c.args.ecc _ _ _ _ c.in-Err.why _ c.in-Err.ensures.works c.in-Err.ensures.stays c.in-Err.ensures.untouched c.in-Err.ensures.lasts
-      c.in-Err.ensures.refused c.in-Err.ensures.causes c.in-Err.ensures.size c.in-Err.ensures.told
+      c.in-Err.ensures.refused c.in-Err.ensures.causes c.in-Err.ensures.answers.size c.in-Err.ensures.told
       (ends_by _ _ _ _ _ c.read_fault.ensures c.fail.ensures);
 }

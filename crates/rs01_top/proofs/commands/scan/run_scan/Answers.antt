@@ -12,6 +12,6 @@ returns-in-Ok g c = record {
 
 pub returns-in-Err : goal.returns-in-Err
 returns-in-Err g c = record {
-  run = not_scanned_by c.args.ecc _ _ c.in-Err.why _ c.in-Err.ensures.reads c.in-Err.ensures.asked c.in-Err.ensures.causes c.in-Err.ensures.size c.in-Err.ensures.answer
+  run = not_scanned_by c.args.ecc _ _ c.in-Err.why _ c.in-Err.ensures.reads c.in-Err.ensures.asked c.in-Err.ensures.causes c.in-Err.ensures.answers.size c.in-Err.ensures.answer
       (ends_by _ _ _ _ _ c.read_fault.ensures c.fail.ensures);
 }
