@@ -19,7 +19,7 @@ abbrev pub option_sense : OptionWord → List ℕ
 option_sense Parity = codes "parity bytes in a codeword of 255"
 option_sense Workers = codes "threads that work"
 option_sense Cut = codes "cuts off what follows the image in its file"
-option_sense Drive = codes "a drive, or a file in place of one; they are asked in this order"
+option_sense Drive = codes "a drive, or a file in place of one; one at least, and they are asked in this order"
 option_sense Adaptive = codes "goes on in the middle of the longest unread run"
 option_sense Jump = codes "sectors from a failed one to the next that is tried"
 option_sense Tries = codes "how often a drive is asked for a sector"

@@ -28,7 +28,8 @@ pub(crate) fn option_sense(option: OptionWord) -> &'static str
         OptionWord::Parity => "parity bytes in a codeword of 255",
         OptionWord::Workers => "threads that work",
         OptionWord::Cut => "cuts off what follows the image in its file",
-        OptionWord::Drive => "a drive, or a file in place of one; they are asked in this order",
+        OptionWord::Drive =>
+            "a drive, or a file in place of one; one at least, and they are asked in this order",
         OptionWord::Adaptive => "goes on in the middle of the longest unread run",
         OptionWord::Jump => "sectors from a failed one to the next that is tried",
         OptionWord::Tries => "how often a drive is asked for a sector",

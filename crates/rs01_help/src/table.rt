@@ -250,7 +250,7 @@ pub static HINTS: [Hint; 37] = [
         holds: "writing a file failed\n",
         lacks: "",
         counts: "",
-        text: "what stands under ECC isn't to be used; is there room, and is ECC the second name?",
+        text: "is ECC the second name, and is there room? what create began under ECC isn't to be used",
     },
     Hint {
         status: 4,
