@@ -1,22 +1,30 @@
 #!/bin/sh
-# What `create`, `verify` and `fix` hold and ask for as images grow: the most memory at several sizes (images of zeros,
-# which take no room on most file systems), whether the time grows as the image does, and how many calls of the system
-# are made for 64 MiB.
+# What `create`, `verify` and `fix` hold and ask for as images grow: the most memory at several sizes by 1, 2 and 8 workers
+# (images of zeros, which take no room on most file systems; their files take a seventh of the size), whether the time
+# grows as the image does, and how many calls of the system are made for 64 MiB.
 # Usage: bench/windows.sh [MEBIBYTES ..]
-# The sizes are those at which memory is told: 512 and 8192, unless others are given. Memory wants GNU time, and calls
-# want strace; what isn't installed is told as unknown.
+# The sizes are those at which memory is told: 512 and 8192, unless others are given; 32767 is the most. Memory wants GNU
+# time, and calls want strace; what isn't installed is told as unknown.
+# Wanted are at most 64 MiB up to an image of 8 GiB and 160 MiB at 32 GiB, at most 8.8 times the time where the image is 8
+# times as long, and for 64 MiB at most 3,000 calls of `create` and 1,500 of `verify`.
 . "$(dirname "$0")/common.sh"
 image=$folder/image
 ecc=$folder/ecc
 
-# Makes an image of zeros of so many MiB, in which so many sectors from the middle on are no zeros.
+# Makes an image of zeros of so many MiB.
 sized() {
     rm -f "$image"
     truncate -s "$1M" "$image" || exit 1
-    if [ "$2" -gt 0 ]; then
-        head -c $((2048 * $2)) /dev/urandom |
-            dd of="$image" bs=2048 seek=$((512 * $1 / 2)) conv=notrunc iflag=fullblock 2> /dev/null || exit 1
-    fi
+}
+
+# Damages it: its last MiB is gone, and in each of 64 parts 4 sectors are no zeros.
+damaged() {
+    sized "$1"
+    truncate -s $(($1 - 1))M "$image" || exit 1
+    for part in $(seq 0 63); do
+        head -c 8192 /dev/urandom |
+            dd of="$image" bs=2048 seek=$((512 * $1 / 64 * part)) conv=notrunc iflag=fullblock 2> /dev/null || exit 1
+    done
 }
 
 # How many calls of the system a command makes.
@@ -30,14 +38,16 @@ calls_of() {
 }
 
 echo "$(uname -m), $(nproc 2> /dev/null || echo '?') processors"
-printf '%9s %12s %12s %12s   most memory in MiB\n' image create verify fix
+printf '%9s %8s %12s %12s %12s   most memory in MiB\n' image workers create verify fix
 for mebibytes in ${*:-512 8192}; do
-    sized "$mebibytes" 0
-    create=$(held_by "$program" create "$image" "$ecc")
-    verify=$(held_by "$program" verify "$image" "$ecc")
-    sized "$mebibytes" 100
-    fix=$(held_by "$program" fix "$image" "$ecc")
-    printf '%5d MiB %12s %12s %12s\n' "$mebibytes" "$create" "$verify" "$fix"
+    for workers in 1 2 8; do
+        sized "$mebibytes"
+        create=$(held_by "$program" create "$image" "$ecc" --workers "$workers")
+        damaged "$mebibytes"
+        verify=$(held_by "$program" verify "$image" "$ecc")
+        fix=$(held_by "$program" fix "$image" "$ecc" --workers "$workers")
+        printf '%5d MiB %8d %12s %12s %12s\n' "$mebibytes" "$workers" "$create" "$verify" "$fix"
+    done
 done
 
 printf '\n%9s %12s %12s %12s   time, the best of three runs\n' image create verify fix

@@ -14,7 +14,8 @@
 #   `verify`, and the same command again ends as the one that was refused nothing, and leaves what it left.
 # - Of `demo` also status 4: its two names are kept nowhere before it begins, and where a file's name finds no memory this
 #   is a fault of the file.
-# A crash, a hang, another status, or something on standard error is wrong. About 2 minutes on a quiet machine.
+# A crash, a hang, another status, or on standard error anything but why a call on a name failed and what is told of
+# refused words is wrong. About 2 minutes on a quiet machine.
 #
 # The second form does the same to the tests of a crate, such as rs01_fix, by `rt try --test --fail-alloc N`, for each N
 # from FIRST (1) to LAST (200), until five in a row were refused nothing that a test needs. The toolchain takes one number
@@ -144,7 +145,7 @@ refuse_each() { # WORDS..
         else
             unreached=0
         fi
-        [ ! -s err.txt ] || wrong "$*, request $number: $(head -1 err.txt)" err.txt
+        [ "$status" = 2 ] || ! grep -qvE '^dvdisaster_rs01: [^:]+: .' err.txt || wrong "$*, request $number: $(head -1 err.txt)" err.txt
         if [ "$status" = "$wanted" ] && same out.txt wanted.txt; then
             ways=$((ways + 1))
             [ "$(left)" = "$left_wanted" ] || wrong "$*, request $number: it ends as it should, and leaves another file" made.*

@@ -30,9 +30,9 @@ wrong() { # WHAT FILE..
 
 same() { cmp -s -- "$1" "$2"; }
 
-# Runs the program with its output in out.txt, and leaves its status in `status`.
+# Runs the program with its output in out.txt and what else it tells in err.txt, and leaves its status in `status`.
 run() {
-    "$program" "$@" >out.txt
+    "$program" "$@" >out.txt 2>err.txt
     status=$?
 }
 

@@ -27,6 +27,7 @@ from wanted import (
     opened,
     refused,
     size_of,
+    wrong_errors,
     wrong_fix,
     wrong_read,
     wrong_scan,
@@ -304,8 +305,7 @@ class Fuzz:
             why = "it ends with status %d" % status
         if not why and lines.pop() != "":
             why = "the last line has no end"
-        if not why and os.path.getsize("errors.txt"):
-            why = "it puts something on standard error"
+        why = why or wrong_errors(words, status, self.left("errors.txt"))
         if not why and used.ru_maxrss > MEBIBYTES * 1024:
             why = "it holds %d KiB" % used.ru_maxrss
         return status, lines, why

@@ -3,8 +3,8 @@
 #
 #   tests/kill.sh [ROUNDS [MEBIBYTES]]
 #
-# `create`, `fix` and `read` are each killed by SIGKILL in ROUNDS rounds (200), on an image of MEBIBYTES (32, which makes
-# two windows of layers), with 1 to 4 workers. What is wanted:
+# `create`, `fix`, `read` and `read --adaptive` are each killed by SIGKILL in ROUNDS rounds (200), on an image of MEBIBYTES
+# (32, which makes two windows of layers), with 1 to 4 workers. What is wanted:
 # - After a killed `create` the file is the one that stood there before, or the finished one, or it is refused by
 #   `verify` and by `fix` with status 3 and a line of the name, the header or the length, and `fix` leaves the image.
 #   `create` again makes the file that an undisturbed run makes, with its report.
@@ -12,7 +12,7 @@
 #   A lost sector that was absent may hold zeros in place of its marker, since the killed run may have written behind it.
 # - After a killed `read` a second one leaves the image that an undisturbed run leaves, with the same sectors lost.
 # - No other file changes.
-# About 10 minutes with the numbers above. Wants GNU or BusyBox `sleep`, which knows parts of a second. Ends with 0 where
+# About 15 minutes with the numbers above. Wants GNU or BusyBox `sleep`, which knows parts of a second. Ends with 0 where
 # all came out so, with 1 where something didn't (each such case is told, and its files kept), and with 2 where the
 # program isn't built. The program is that of crates/dvdisaster_rs01/out, or the one that PROGRAM names.
 set -u
@@ -41,7 +41,7 @@ measure() {
     for _ in 1 2 3; do
         prepare
         begin=$(now)
-        "$program" "$@" >out.txt
+        "$program" "$@" >out.txt 2>err.txt
         this=$(($(now) - begin))
         [ "$this" -le "$longest" ] || longest=$this
     done
@@ -51,7 +51,7 @@ measure() {
 kill_at_random() {
     local wait pid
     wait=$(between 0 "$longest")
-    "$program" "$@" >out.txt &
+    "$program" "$@" >out.txt 2>err.txt &
     pid=$!
     sleep "$(printf '%d.%06d' $((wait / 1000000)) $((wait % 1000000)))"
     kill -KILL $pid 2>/dev/null
@@ -169,42 +169,46 @@ row fix
 # Reads, from a drive that has all sectors or too few, with and without the error correction file, into a name that
 # isn't there or onto a damaged image.
 head -c $((bytes - bytes / 8)) good.iso >short.iso
-begin_rows
-for round in $(seq "$rounds"); do
-    set -- linear adaptive
-    shift $((round % $#))
-    words="--jump $(between 1 3)"
-    [ "$1" = linear ] || words="--adaptive --workers $(between 1 4)"
-    drive=good.iso
-    [ $((round % 3)) != 0 ] || drive=short.iso
-    ecc=good.ecc
-    [ $((round % 4)) != 0 ] || ecc=
-    start() {
-        rm -f made.iso
-        [ -z "$ecc" ] || [ $((round % 5)) != 0 ] || cp bad.iso made.iso
-    }
-    start
-    begin=$(now)
-    # shellcheck disable=SC2086
-    run read made.iso $ecc --drive $drive $words
-    longest=$(($(now) - begin))
-    wanted=$status
-    mv made.iso wanted.iso
-    grep '^lost' out.txt >wanted.txt
-    start
-    # shellcheck disable=SC2086
-    kill_at_random read made.iso $ecc --drive $drive $words
-    what="round $round of read ($ecc $drive $words)"
-    cp made.iso between.iso 2>/dev/null || : >between.iso
-    # shellcheck disable=SC2086
-    run read made.iso $ecc --drive $drive $words
-    [ "$status" = "$wanted" ] || wrong "$what: the second read ended with status $status" between.iso
-    grep '^lost' out.txt | same - wanted.txt || wrong "$what: other sectors are lost" between.iso
-    same made.iso wanted.iso || wrong "$what: the second read left another image" between.iso
-    if [ $drive = good.iso ] && ! head -c "$bytes" made.iso | same - good.iso; then
-        wrong "$what: the image isn't that of the drive" between.iso
-    fi
-    check_others "$what"
-done
+read_and_kill() { # WAY
+    local way=$1
+    begin_rows
+    for round in $(seq "$rounds"); do
+        words="--jump $(between 1 3)"
+        [ "$way" = linear ] || words="--adaptive --workers $(between 1 4)"
+        drive=good.iso
+        [ $((round % 3)) != 0 ] || drive=short.iso
+        ecc=good.ecc
+        [ $((round % 4)) != 0 ] || ecc=
+        start() {
+            rm -f made.iso
+            [ -z "$ecc" ] || [ $((round % 5)) != 0 ] || cp bad.iso made.iso
+        }
+        start
+        begin=$(now)
+        # shellcheck disable=SC2086
+        run read made.iso $ecc --drive $drive $words
+        longest=$(($(now) - begin))
+        wanted=$status
+        mv made.iso wanted.iso
+        grep '^lost' out.txt >wanted.txt
+        start
+        # shellcheck disable=SC2086
+        kill_at_random read made.iso $ecc --drive $drive $words
+        what="round $round of read ($ecc $drive $words)"
+        cp made.iso between.iso 2>/dev/null || : >between.iso
+        # shellcheck disable=SC2086
+        run read made.iso $ecc --drive $drive $words
+        [ "$status" = "$wanted" ] || wrong "$what: the second read ended with status $status" between.iso
+        grep '^lost' out.txt | same - wanted.txt || wrong "$what: other sectors are lost" between.iso
+        same made.iso wanted.iso || wrong "$what: the second read left another image" between.iso
+        if [ $drive = good.iso ] && ! head -c "$bytes" made.iso | same - good.iso; then
+            wrong "$what: the image isn't that of the drive" between.iso
+        fi
+        check_others "$what"
+    done
+}
+read_and_kill linear
 row read
+read_and_kill adaptive
+row "read --adaptive"
 finish

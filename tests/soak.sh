@@ -53,7 +53,7 @@ with_workers() { # WHAT FILE WORDS..
     shift 2
     for workers in 1 2 3 4 5 6 7 8; do
         prepare
-        limited "$@" --workers $workers >out.txt
+        limited "$@" --workers $workers >out.txt 2>err.txt
         status=$?
         if [ $workers = 1 ]; then
             cp "$file" one.file

@@ -21,6 +21,7 @@ docs/COMMAND_LINE.md, but for the restoring itself.
   be erased there beside its sectors, this layer is strange, by its lowest codeword that was changed.
 - Words are refused with status 2 and exactly the line of their first fault, or with status 8 and no output where one
   isn't UTF-8, and then no file changes. Words that are in the grammar aren't refused.
+- On the standard error stands what is told of refused words, and else at most one line for each name: why a call failed.
 """
 
 import hashlib
@@ -341,8 +342,8 @@ def wrong_turns(case, ecc, status, lines):
     restored, lost, strange, wrong = mended(ecc, lines[len(wanted) : -1], reading.bad)
     if wrong:
         return wrong
-    if status != bool(lost):
-        return "the status isn't %d" % bool(lost)
+    if status != bool(lost or strange):
+        return "the status isn't %d" % bool(lost or strange)
     after = case.left("new.iso")
     wrong = wrong_left(ecc, reading.image, after, set(restored), set(lost), False, untested(case, ecc))
     return wrong or wrong_layers(case, ecc, after, reading.bad, strange)
@@ -523,6 +524,18 @@ def words_fault(words):
         if any(name == other and DRIVE != kind or name == other and DRIVE != its for _, other, its in names[:i]):
             return place, "the same name twice"
     return None
+
+
+def wrong_errors(words, status, errors):
+    """What is wrong with what was put on the standard error, where it isn't a terminal."""
+    if status in (2, 8):
+        return None if errors else "nothing is told of the refused words"
+    told = []
+    for line in errors.splitlines():
+        program, name, reason = (line.split(b": ", 2) + [b"", b""])[:3]
+        if program != b"dvdisaster_rs01" or not reason or name not in [*words, b"demo.iso", b"demo.ecc"] or name in told:
+            return "it puts something on standard error"
+        told.append(name)
 
 
 REPORTS = {"create": "created ", "fix": "fixed ", "verify": "checked ", "scan": "scanned ", "read": "read ", "demo": "demo "}
