@@ -153,9 +153,9 @@ OutOfMemory | {FREE} | IsFix.answer | pub left : MayStand (fix_answer (old ecc) 
         "rs01_linear::ReadRefusal",
         {"read_linear": "rs01_linear", "read_adaptive": "rs01_adaptive", "read_adaptive_one": "rs01_adaptive", "scan": "rs01_verify"},
         f"""
-Ecc | exactly where a file is given and opening it is refused so; never a fault or want of memory | read_linear: told, causes, untouched; read_adaptive: told, causes, untouched; read_adaptive_one: told, causes, untouched; scan: answer, causes | found_in_file (Err why) number = Err (refusal.Ecc why) ;; TellsFaults (Ecc why) = IsToldOfFile why ;; IsOfReading (Ecc why) = IsToldOfFile why
-Rack | exactly where the drives give no number of sectors, and the file that may be given is to be opened | read_linear: told, refused; read_adaptive: told, refused; read_adaptive_one: told, refused; scan: answer, asked | found_in_drives (Err why) = Err (refusal.Rack why) ;; found_in_file (Ok c) (Err why) = Err (refusal.Rack why) ;; RefusesBy (Err (Rack why)) old new = GivesNumber (Err why) old new × HasCause (Err why) old new
-DriveSize | exactly where no file is given, and the drives' number is 0 or above 16,777,215 | read_linear: told, refused, size; read_adaptive: told, refused, size; read_adaptive_one: told, refused, size; scan: answer, asked, size | if (n == 0) || nat_lt 16777215 n then Err (refusal.DriveSize n) ;; RefusesBy (Err (DriveSize n)) old new = GivesNumber (Ok n) old new × IsUnfit n
+Ecc | exactly where a file is given and opening it is refused so; never a fault or want of memory | read_linear: told, answers, causes, untouched; read_adaptive: told, answers, causes, untouched; read_adaptive_one: told, answers, causes, untouched; scan: answer, answers, causes | found_in_file (Err why) number = Err (refusal.Ecc why) ;; AnswersFile desk ecc (Err (refusal.Ecc why)) = IsTrue desk.tells → IsSomeAnd (file_given desk ecc) (λ given. opened_file given ≡ Err why) ;; AnswersFile desk ecc answer = IsTrue desk.tells → ForSome (file_given desk ecc) (λ given. IsOk (opened_file given)) ;; TellsFaults (Ecc why) = IsToldOfFile why ;; IsOfReading (Ecc why) = IsToldOfFile why
+Rack | exactly where the drives give no number of sectors, and the file that may be given is to be opened | read_linear: told, refused, answers; read_adaptive: told, refused, answers; read_adaptive_one: told, refused, answers; scan: answer, asked, answers | found_in_drives (Err why) = Err (refusal.Rack why) ;; found_in_file (Ok c) (Err why) = Err (refusal.Rack why) ;; RefusesBy (Err (Rack why)) old new = GivesNumber (Err why) old new × HasCause (Err why) old new
+DriveSize | exactly where no file is given, and the drives' number is 0 or above 16,777,215 | read_linear: told, refused, answers; read_adaptive: told, refused, answers; read_adaptive_one: told, refused, answers; scan: answer, asked, answers | if (n == 0) || nat_lt 16777215 n then Err (refusal.DriveSize n) ;; RefusesBy (Err (DriveSize n)) old new = GivesNumber (Ok n) old new × IsUnfit n ;; RefusesSizeAlone ecc (DriveSize n) = ecc ≡ None
 ReadFault | {READ} | read_linear: works; read_adaptive: works; read_adaptive_one: works; scan: reads | reads_badly ReadFault = true ;; {READ_ROSE} ;; {READS_ROSE}
 WriteFault | {WRITE}, and the medium isn't refused; never of a scan | read_linear: works, told; read_adaptive: works, told; read_adaptive_one: works, told; scan: causes | writes_badly WriteFault = true ;; {WRITE_ROSE} ;; pub write_fault_last : IsTrue (writes_badly why) → IsOk (found given (views_of old)) ;; IsOfReading WriteFault = ⊥
 OutOfMemory | {FREE} | read_linear: told; read_adaptive: told; read_adaptive_one: told; scan: answer | IsOfMedium OutOfMemory = ⊥ ;; pub left : IsUntouched old new before file ⊎ IsOkAnd (found given (views_of old)) IsLeft
@@ -333,6 +333,12 @@ rs01_fakes::file | exactly where the name isn't there | option_copied result ≡
 rs01_outside::size | where the desk tells, exactly where the name isn't there | size | SizeIs files name size = size ≡ option_map length (files name)
 """
 
+# What a report tells of a medium.
+REPORT_CALLS = {"read_linear": "rs01_linear", "read_adaptive": "rs01_adaptive", "read_adaptive_one": "rs01_adaptive", "scan": "rs01_verify"}
+REPORTED = """
+unreadable | where all tell, exactly the sectors for which no drive answered when they were asked for; always, each drive's count rose by at least the number of these sectors, or stands at its last value | read_linear: unreadable, told; read_adaptive: unreadable, told; read_adaptive_one: unreadable, told; scan: asked, answer | UnreadableRose (Ok told) old new = AllRoseBy (length told.unreadable) old new ;; unreadable = sectors_told fates told.Unreadable; ;; rs01_verify: HasScanCause (Ok report) old new = AllRoseBy (length report.unreadable) old new ;; rs01_verify: unreadable = filter (λ s. is_unreadable (asked_at found.known views s)) (range_with_len 0 found.known.sectors);
+"""
+
 # Each enum with such a name is to have a table.
 NEEDED = re.compile(r"pub enum (\w*(?:Refusal|Refused|Fault|Stop))\b")
 
@@ -483,6 +489,13 @@ def nones():
     return [*intro, *rows, ""]
 
 
+def reported():
+    """A row for what a report tells of a medium."""
+    rows = rows_in(REPORTED, REPORT_CALLS, "rs01_linear")[1]
+    columns = [COLUMNS[0].replace("Answer", "Told"), COLUMNS[1]]
+    return ["## What a report tells of a medium", "", calls_line(REPORT_CALLS), "", *columns, *rows, ""]
+
+
 def calls_line(calls):
     return "Calls: " + ", ".join(f"{coded(name)} of {coded(crate)}" for name, crate in calls.items()) + "."
 
@@ -571,6 +584,7 @@ def page():
             for short in NEEDED.findall(text):
                 if f"{crate}::{short}" not in seen:
                     raise Wrong(f"{crate}::{short} has no table")
+    parts += reported()
     parts += nones()
     return "\n".join(parts)
 
