@@ -12,8 +12,6 @@ mod noting;
 mod putting;
 mod settling;
 mod telling;
-#[cfg(test)]
-mod tests;
 mod working;
 
 pub use adaptive::{read_adaptive, read_adaptive_one};

@@ -31,6 +31,3 @@ pub use adding::add_column;
 pub use encoder::LayerEncoder;
 pub use products::write_products;
 pub use syndromes::LayerSyndromes;
-
-#[cfg(test)]
-mod tests;

@@ -23,6 +23,3 @@ pub use creating::{create, create_one};
 pub use refusal::CreateRefusal;
 pub use rs01_outside::{Desk, Gate};
 pub use rs01_report::CreateReport;
-
-#[cfg(test)]
-mod tests;

@@ -24,6 +24,3 @@ pub use pieces::{read_bytes, read_piece};
 pub use runs::read_run;
 pub use sectors::sector_in;
 pub use walk::{Visitor, WalkFault, walk_image};
-
-#[cfg(test)]
-mod tests;

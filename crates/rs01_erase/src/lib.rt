@@ -19,6 +19,3 @@ pub use correct::PlainCorrectTask;
 pub use pattern::{Disagree, Pattern, PatternRefusal};
 pub use places::{are_places, places_of};
 pub use restore::{EraseRefusal, restore_codeword};
-
-#[cfg(test)]
-mod tests;

@@ -25,6 +25,3 @@ pub use once_refusing::OnceRefusing;
 pub use sample::{sample_desk, sample_ecc};
 pub use script_drive::ScriptDrive;
 pub use scripts::Script;
-
-#[cfg(test)]
-mod tests;

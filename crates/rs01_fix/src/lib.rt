@@ -21,6 +21,3 @@ pub use refusal::FixRefusal;
 pub use rs01_ecchead::{HeadRefusal, Which};
 pub use rs01_outside::{Desk, Gate};
 pub use rs01_report::{FixReport, SectorList, Strange, StrangeList, Why};
-
-#[cfg(test)]
-mod tests;

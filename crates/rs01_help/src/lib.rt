@@ -23,6 +23,3 @@ pub use progress::{Asks, bytes_line, sectors_line};
 pub use puts::{put_fault_lines, put_help, put_hints, put_page, put_usage, put_version};
 pub use table::HINTS;
 pub use topic::{Topic, topic_of};
-
-#[cfg(test)]
-mod tests;

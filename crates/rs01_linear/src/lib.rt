@@ -14,8 +14,6 @@ mod prepared;
 mod reading;
 mod refusal;
 mod telling;
-#[cfg(test)]
-mod tests;
 
 pub use asking::{Asked, ask_sector};
 pub use fate::Fate;

@@ -13,6 +13,3 @@ pub use batch::Batch;
 pub use found::Found;
 pub use given::next_input;
 pub use restored::{layer_is_restored, restored_block};
-
-#[cfg(test)]
-mod tests;

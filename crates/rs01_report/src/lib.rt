@@ -21,6 +21,3 @@ pub use reports::{
     VerifyReport, Why,
 };
 pub use status::Status;
-
-#[cfg(test)]
-mod tests;

@@ -18,6 +18,3 @@ mod working;
 
 pub use given::{Given, Taken, Ticket};
 pub use seats::{Poster, Seats, WindowTable, Worker};
-
-#[cfg(test)]
-mod tests;

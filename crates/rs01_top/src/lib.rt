@@ -8,6 +8,3 @@ pub mod laws;
 mod running;
 
 pub use running::{run, run_one};
-
-#[cfg(test)]
-mod tests;

@@ -19,6 +19,3 @@ pub use rs01_rack::{Rack, RackRefusal};
 pub use rs01_report::{Fullest, Mark, ScanReport, SectorList, VerifyReport};
 pub use scanning::scan;
 pub use verifying::verify;
-
-#[cfg(test)]
-mod tests;

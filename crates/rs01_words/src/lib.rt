@@ -25,6 +25,3 @@ pub use table::{
 };
 pub use value::{is_digit, number_up_to};
 pub use walk::{word_at, word_if_any};
-
-#[cfg(test)]
-mod tests;

@@ -18,6 +18,3 @@ pub use beside::{work_all, work_window};
 pub use filler::Filler;
 pub use results::{Results, WindowStop};
 pub use windows::Windows;
-
-#[cfg(test)]
-mod tests;
