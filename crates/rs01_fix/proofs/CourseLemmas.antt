@@ -1,6 +1,6 @@
 -- How a repair goes on.
-use Rattle.std.proofs.Common.{◌≡◌, ℕ, zero, suc, ◌+◌, ◌-◌, ◌*◌, ◌<◌, ◌≤◌, List, [], ◌∷◌, ◌++◌, length, map, get_or, refl, sym, ap, ◌∙◌, subst, arith, Bool, true, false}
-use Rattle.std.specs.Prelude.{All, IfNone, IfSome, IsTrue, Option, Some, None, not, slice_get}
+use Rattle.std.proofs.Common.{◌≡◌, ℕ, suc, ◌+◌, ◌-◌, ◌<◌, ◌≤◌, List, [], ◌∷◌, ◌++◌, length, map, get_or, refl, sym, ap, ◌∙◌, subst, arith, Bool, false}
+use Rattle.std.specs.Prelude.{All, IfNone, IfSome, IsTrue, Option, Some, None, slice_get}
 use Rattle.std.specs.Option.{option_map, unwrap_or}
 use Rattle.std.specs.List.{range_with_len}
 use Rattle.std.proofs.lemmas.List.Elements.{All-get_or}
@@ -20,9 +20,8 @@ use Rattle.rs01_repair.specs.Finding.{HasEcc, Sources, answer_to, layers_in, sai
 use Rattle.rs01_repair.specs.Given.{Fits, GivesNext, HasNoNext, IsInputNow, IsReady}
 use Rattle.rs01_repair.specs.declared.batch.Batch.{Batch}
 use Rattle.rs01_repair.specs.declared.found.Found.{Found}
-use Rattle.rs01_fix.specs.Progress.{Stands}
-use Rattle.rs01_fix.specs.Steps.{AreKept, HasRoom, IsBefore, IsEitherWay, sources}
-use Rattle.rs01_fix.specs.Windows.{AreAnswers, AreAnswersOf, GivesLayer, GoesOn, IsAnswer, IsAnswerOf, IsDone, IsGoing, IsUpTo, IsWindow, NoFault, given}
+use Rattle.rs01_fix.specs.Steps.{AreKept, IsBefore, IsEitherWay, sources}
+use Rattle.rs01_fix.specs.Windows.{AreAnswers, AreAnswersOf, GivesLayer, GoesOn, IsAnswerOf, IsDone, IsGoing, IsUpTo, IsWindow, given}
 use Rattle.rs01_fix.specs.declared.course.Course.{Course}
 use Rattle.rs01_fix.proofs.FoundLemmas.{ecc_read, have_blocks, is_image}
 use Rattle.rs01_fix.proofs.Later.{answered_later}
@@ -167,6 +166,18 @@ pub if_none : {A : Type 0} (o : Option A) (P Q : Type 0) → (P → Q) → IfNon
 if_none None P Q h is = h is
 if_none (Some x) P Q h is = is
 
+-- work that only read leaves a course going, with a batch that is no further behind
+going_on : (found : Found) (image ecc : List ℕ) (old new : DeskState) (course : Course) (batch : Batch) → IsGoing found image ecc old course
+    → OnlyReads old new false → course.batch.next ≤ batch.next → IsReady found image ecc new batch → IsGoing found image ecc new (record course { batch = batch })
+going_on found image ecc old new course batch going reads further ready = record {
+  differ = going.differ;
+  whole = going.whole;
+  none = record { reads = reads.kept refl ∙ going.none.reads; writes = reads.writes ∙ going.none.writes };
+  order = omega (arith, going.order, further);
+  room = going.room;
+  ready = ready;
+}
+
 -- the next layer was given, or none is left
 pub gives_layer : (found : Found) (image ecc : List ℕ) (old new : DeskState) (course : Course) (batch : Batch) (input : LayerInput) → IsGoing found image ecc old course
     → OnlyReads old new false → GivesNext found image ecc new course.batch batch input → GivesLayer found image ecc new course (record course { batch = batch }) input
@@ -174,14 +185,7 @@ gives_layer found image ecc old new course batch input going reads gives = recor
   gave = ap (λ k. range_with_len course.start (k - course.start)) gives.next ∙ one_more_given course.start course.batch.next going.order
       ∙ ap (λ k. range_with_len course.start (course.batch.next - course.start) ++ k ∷ []) (sym gives.layer);
   fits = gives.fits;
-  going = record {
-    differ = going.differ;
-    whole = going.whole;
-    none = record { reads = reads.kept refl ∙ going.none.reads; writes = reads.writes ∙ going.none.writes };
-    order = omega (arith, going.order, gives.next);
-    room = going.room;
-    ready = gives.ready;
-  };
+  going = going_on found image ecc old new course batch going reads (omega (arith, gives.next)) gives.ready;
 }
 
 pub gives_none : (found : Found) (image ecc : List ℕ) (old new : DeskState) (course : Course) (batch : Batch) → IsGoing found image ecc old course → OnlyReads old new false
@@ -190,14 +194,7 @@ pub gives_none : (found : Found) (image ecc : List ℕ) (old new : DeskState) (c
 gives_none found image ecc old new course batch going reads none = (
   ap (λ k. range_with_len course.start (k - course.start)) none.same,
   record {
-    going = record {
-      differ = going.differ;
-      whole = going.whole;
-      none = record { reads = reads.kept refl ∙ going.none.reads; writes = reads.writes ∙ going.none.writes };
-      order = omega (arith, going.order, none.same);
-      room = going.room;
-      ready = none.ready;
-    };
+    going = going_on found image ecc old new course batch going reads (omega (arith, none.same)) none.ready;
     all = none.same ∙ none.all;
   },
 )

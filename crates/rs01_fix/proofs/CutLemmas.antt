@@ -33,7 +33,7 @@ not_cut c y answers true e = nothing_to_cut c y answers true (there_ends (image_
 not_cut c y answers false e = refl
 
 -- the fixed file itself is on the way, and so is the one whose surplus isn't cut yet
-fixed_between : (y fixed : List ℕ) → IsBetween y fixed fixed
+pub fixed_between : (y fixed : List ℕ) → IsBetween y fixed fixed
 fixed_between y fixed = record {
   not_shorter = omega arith;
   not_longer = omega arith;

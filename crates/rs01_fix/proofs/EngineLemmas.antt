@@ -1,8 +1,6 @@
 -- How a repair begins, and how it ends.
-use Rattle.std.proofs.Common.{◌≡◌, ℕ, ◌+◌, ◌-◌, ◌<◌, ◌≤◌, List, [], length, refl, sym, ap, ◌∙◌, subst, arith, Bool, true, false, ◌⊎◌, ⊎_elim}
-use Rattle.std.specs.Prelude.{IsTrue, Option, Some, not}
+use Rattle.std.proofs.Common.{◌≡◌, ℕ, ◌-◌, List, [], length, sym, ◌∙◌, subst, arith, false, ◌⊎◌, ⊎_elim}
 use Rattle.std.specs.List.{range_with_len}
-use Rattle.rs01_layers.specs.Layout.{layers_of}
 use Rattle.rs01_outside.specs.Causes.{Rose}
 use Rattle.rs01_outside.specs.DeskState.{DeskState, WorksOn}
 use Rattle.rs01_repair.specs.Finding.{HasEcc, Sources, answer_to, layers_in, said}

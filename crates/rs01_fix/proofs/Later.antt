@@ -1,10 +1,8 @@
 -- The layers that aren't repaired yet are as they were when the image was found.
-use Rattle.std.proofs.Common.{◌≡◌, ℕ, ◌+◌, ◌-◌, ◌*◌, ◌<◌, ◌≤◌, List, [], length, get_or, refl, sym, ap, ◌∙◌, subst, arith, inl, inr, Bool, true, false, cond, ltb, ⊎_elim, ◌⊎◌}
-use Rattle.std.specs.Prelude.{not, nat_lt, ◌||◌, Some, None}
+use Rattle.std.proofs.Common.{◌≡◌, ℕ, ◌-◌, ◌<◌, ◌≤◌, List, length, get_or, sym, ap, ◌∙◌, arith, inl, inr, Bool, false, ltb, ⊎_elim}
+use Rattle.std.specs.Prelude.{not, ◌||◌, Some, None}
 use Rattle.std.proofs.lemmas.Bool.{cases_Bool, cases_lt, cond-true, lt-ltb}
-use Rattle.std.specs.List.{range_with_len}
-use Rattle.rs01_layers.specs.Layout.{IsShape, layer_of, layers_of, number_at, sector_at}
-use Rattle.rs01_layers.specs.Sectors.{length_of}
+use Rattle.rs01_layers.specs.Layout.{IsShape, layer_of, layers_of, number_at}
 use Rattle.rs01_layers.specs.declared.input.LayerInput.{LayerInput}
 use Rattle.rs01_layers.specs.declared.task.LayerOut.{LayerOut}
 use Rattle.rs01_layers.proofs.PlaceLemmas.{each_sector_has_one_place}
@@ -14,8 +12,7 @@ use Rattle.rs01_ecchead.specs.Erased.{block_in, is_absent, is_erased, known_by, 
 use Rattle.rs01_ecchead.specs.Header.{Fields}
 use Rattle.rs01_ecchead.specs.Opened.{Opened}
 use Rattle.rs01_erase.specs.Correcting.{correct}
-use Rattle.rs01_repair.specs.Finding.{Sources, answer_to, fields_in, is_erased_by, is_erased_now, is_gone_in, recorded_in, said, said_with}
-use Rattle.rs01_repair.specs.Given.{IsInputNow}
+use Rattle.rs01_repair.specs.Finding.{answer_to, fields_in, is_erased_by, is_erased_now, is_gone_in, recorded_in, said, said_with}
 use Rattle.rs01_repair.specs.Inputs.{IsInput, flag_at, flags_at, place_number}
 use Rattle.rs01_repair.specs.declared.found.Found.{Found}
 use Rattle.rs01_ecchead.proofs.Shapes.{is_shape}

@@ -3,7 +3,7 @@ mod ProgressLemmas
 mod OrderLemmas
 pub mod FixedLemmas
 mod StandLemmas
-mod CutLemmas
+pub mod CutLemmas
 mod ToldLemmas
 pub mod FileLemmas
 pub mod ComesBack

@@ -1,22 +1,12 @@
 -- The answers of a window.
-use Rattle.std.proofs.Common.{◌≡◌, ℕ, zero, suc, ◌+◌, ◌-◌, ◌*◌, ◌<◌, ◌≤◌, List, [], ◌∷◌, ◌++◌, length, map, get_or, refl, sym, ap, ◌∙◌, subst, arith, Bool, true, false, ⊎_elim}
-use Rattle.std.specs.Prelude.{All, IfSome, Option, Some, None, slice_get, ◌&&◌}
-use Rattle.std.specs.Option.{option_map}
-use Rattle.std.specs.List.{range_with_len}
+use Rattle.std.proofs.Common.{◌≡◌, ℕ, zero, suc, ◌+◌, ◌<◌, List, [], ◌∷◌, ◌++◌, length, get_or, refl, sym, ap, ◌∙◌, subst, arith, Bool, true, false, ⊎_elim}
+use Rattle.std.specs.Prelude.{IfSome, Option, Some, None, slice_get, ◌&&◌}
 use Rattle.std.proofs.lemmas.Bool.{cases_eq}
-use Rattle.std.proofs.lemmas.List.Elements.{All-get_or}
-use Rattle.std.proofs.lemmas.List.FromFn.{get_or-range_with_len, length-range_with_len}
-use Rattle.std.proofs.lemmas.List.{length-map}
-use Rattle.std.proofs.lemmas.Option.{get_or_from_slice_get, slice_get-map, slice_get_within}
-use Rattle.rs01_layers.specs.Layout.{layer_of, layers_of, number_at, place_of}
+use Rattle.rs01_layers.specs.Layout.{layer_of, number_at, place_of}
 use Rattle.rs01_layers.specs.declared.input.LayerInput.{LayerInput}
 use Rattle.rs01_layers.specs.declared.task.LayerOut.{LayerOut}
-use Rattle.rs01_outside.specs.DeskState.{DeskState}
-use Rattle.rs01_outside.specs.Files.{bytes_of}
 use Rattle.rs01_erase.specs.Correcting.{blocks_in, correct}
-use Rattle.rs01_workers.specs.Work.{Worked}
-use Rattle.rs01_repair.specs.Finding.{HasEcc, Sources, answer_to, fields_in, is_gone_in, layers_in}
-use Rattle.rs01_repair.specs.Given.{Fits, IsOfShape}
+use Rattle.rs01_repair.specs.Finding.{Sources, answer_to, fields_in, is_gone_in}
 use Rattle.rs01_repair.specs.Inputs.{flags_at}
 use Rattle.rs01_repair.specs.Restored.{IsBlockWhere, NamesSector, is_restored, restored_at}
 use Rattle.rs01_repair.specs.declared.found.Found.{Found}
@@ -26,8 +16,8 @@ use Rattle.rs01_repair.proofs.InputLemmas.{flag_of_sector}
 use Rattle.rs01_repair.proofs.Numbered.{one_more, one_more_piece}
 use Rattle.rs01_fix.specs.Places.{HasWholeBlocks}
 use Rattle.rs01_fix.specs.Repair.{strange_in}
-use Rattle.rs01_fix.specs.Steps.{Adds, AreKept, FlagSectors, FlagsLayer}
-use Rattle.rs01_fix.specs.Windows.{AreAnswers, IsAnswer, IsAnswerOf}
+use Rattle.rs01_fix.specs.Steps.{Adds, AreKept, FlagsLayer}
+use Rattle.rs01_fix.specs.Windows.{IsAnswer, IsAnswerOf}
 use Rattle.rs01_fix.specs.declared.repairs.Repairs.{Repairs}
 
 whole_where : (w : Bool) (o : Option (List ℕ)) → IsBlockWhere w o → IfSome o (λ b. length b ≡ 2048)

@@ -1,6 +1,6 @@
 -- What holds of every repair of the image under one name by the error correction file under another, however its windows
 -- are worked, and of its parts.
-use Rattle.std.specs.Prelude.{ℕ, ◌≡◌, Bool, false, List, Result, Ok, IfErr, OnOk}
+use Rattle.std.specs.Prelude.{ℕ, Bool, false, List, Result, Ok, IfErr, OnOk}
 use Rattle.rs01_outside.specs.DeskState.{DeskState, OnlyReads}
 use Rattle.rs01_report.specs.declared.reports.FixReport.{FixReport}
 use Rattle.rs01_repair.specs.declared.found.Found.{Found}

@@ -1,6 +1,6 @@
 -- The steps of a repair: what each leaves of the image file. found is what the repair starts from, and was are the two
 -- files as they were found.
-use Rattle.std.specs.Prelude.{ℕ, ◌≡◌, ◌≢◌, ◌+◌, ◌++◌, ◌∷◌, ◌<◌, Bool, true, false, IsTrue, List, [], Option, Some, Result, Ok, Err, IfOk, length, map, slice_index_or}
+use Rattle.std.specs.Prelude.{ℕ, ◌≡◌, ◌≢◌, ◌++◌, ◌∷◌, ◌<◌, Bool, true, false, IsTrue, List, [], Option, Some, Result, Ok, Err, IfOk, length, map, slice_index_or}
 use Rattle.std.specs.List.{flat_map, range_with_len}
 use Rattle.std.specs.Option.{option_map, unwrap_or}
 use Rattle.rs01_layers.specs.Layout.{layer_of, place_of, sector_at}

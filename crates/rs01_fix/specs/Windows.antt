@@ -1,5 +1,5 @@
 -- What is repaired window by window: up to 64 neighbouring layers at a time.
-use Rattle.std.specs.Prelude.{ℕ, ◌≡◌, ◌≢◌, ◌≤◌, ◌<◌, ◌+◌, ◌-◌, true, All, Bool, IsTrue, List, [], ◌∷◌, ◌++◌, Some, length, map, not, slice_get}
+use Rattle.std.specs.Prelude.{ℕ, ◌≡◌, ◌≢◌, ◌≤◌, ◌+◌, ◌-◌, true, All, IsTrue, List, [], ◌∷◌, ◌++◌, Some, length, map, not, slice_get}
 use Rattle.std.specs.List.{range_with_len}
 use Rattle.rs01_layers.specs.declared.input.LayerInput.{LayerInput}
 use Rattle.rs01_layers.specs.declared.task.LayerOut.{LayerOut}

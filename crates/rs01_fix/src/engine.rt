@@ -7,7 +7,7 @@ use crate::course::Course;
 use crate::refusal::FixRefusal;
 use crate::windows::Repairing;
 use rs01_outside::{Desk, Gate};
-use rs01_repair::Found;
+use rs01_repair::{Beside, Found, InTurn};
 use rs01_workers::{work_all, work_all_one};
 use std::alloc::Global;
 use std::sync::Wait;
@@ -31,6 +31,7 @@ pub fn work_windows_one<D: Desk>(
         image,
         ecc,
         found,
+        judging: &InTurn,
         course,
     };
     match work_all_one(alloc, &found.task, &mut repairing) {
@@ -39,7 +40,7 @@ pub fn work_windows_one<D: Desk>(
     }
 }
 
-// The same by so many workers.
+// The same by so many workers, and as many threads judge the layers that were read together.
 pub fn work_windows<R: Threads + Wait + Sync, D: Desk, G: Gate>(
     rt: &R,
     alloc: Global,
@@ -56,11 +57,16 @@ pub fn work_windows<R: Threads + Wait + Sync, D: Desk, G: Gate>(
     ensures { AreWorked found.now image.now ecc.now (D.state desk.old) course.old
         (D.state desk.new) course.new result }
 {
+    let judging = Beside {
+        rt,
+        threads: workers,
+    };
     let mut repairing = Repairing {
         desk,
         image,
         ecc,
         found,
+        judging: &judging,
         course,
     };
     match work_all(rt, alloc, &found.task, &mut repairing, workers, gate) {

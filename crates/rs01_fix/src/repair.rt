@@ -12,17 +12,18 @@ use crate::refusal::FixRefusal;
 use crate::window::{keep_window, put_window};
 use rs01_layers::LayerInput;
 use rs01_outside::{Desk, Failed};
-use rs01_repair::{Batch, Found, next_input};
+use rs01_repair::{Batch, Found, Judging, next_input};
 use rs01_workers::Results;
 use std::alloc::Global;
 
 // What correcting is given of the next layer, or `None` where none is left.
-pub fn next_layer<D: Desk>(
+pub fn next_layer<D: Desk, J: Judging>(
     alloc: Global,
     desk: &mut D,
     image: &str,
     ecc: &str,
     found: &Found,
+    judging: &J,
     course: &mut Course,
 ) -> Result<Option<LayerInput>, FixRefusal>
     requires { IsGoing found.now image.now ecc.now (D.state desk.old) course.old }
@@ -37,7 +38,7 @@ pub fn next_layer<D: Desk>(
     ensures stopped { IfErr result (λ why. (given course.new ≡ given course.old)
         × HasStopped (D.state desk.new) course.new why) }
 {
-    match next_input(alloc, desk, image, ecc, found, &mut course.batch) {
+    match next_input(alloc, desk, image, ecc, found, judging, &mut course.batch) {
         Ok(next) => Ok(next),
         Err(why) => Err(FixRefusal::from(why)),
     }

@@ -1,8 +1,7 @@
 //! What is kept of the layers that were repaired.
 ghost use Rattle.std.specs.Prelude.{◌≡◌, ◌≢◌, ◌+◌, ◌<◌, Bool, List, OnOk, IfOk, length, option_to_list, ℕ, slice_index_or, false};
 ghost use Rattle.rs01_layers.specs.Layout.{layer_of};
-ghost use Rattle.rs01_repair.specs.Finding.{IsLayer, IsPlaceOf, fields_in};
-ghost use Rattle.rs01_repair.specs.Given.{places_in};
+ghost use Rattle.rs01_repair.specs.Finding.{IsLayer, IsPlaceOf, fields_in, places_in};
 ghost use Rattle.rs01_repair.specs.Inputs.{flags_at};
 ghost use Rattle.rs01_repair.specs.Restored.{NamesSector};
 ghost use Rattle.rs01_fix.specs.Repair.{strange_in};

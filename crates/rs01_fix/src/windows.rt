@@ -12,22 +12,23 @@ use crate::repair::{next_layer, settle_window};
 use rs01_erase::CorrectTask;
 use rs01_layers::LayerInput;
 use rs01_outside::Desk;
-use rs01_repair::Found;
+use rs01_repair::{Found, Judging};
 use rs01_workers::{Filler, Results, Windows};
 use std::alloc::Global;
 
 /// A repair of the image under a name by the error correction file under another. It borrows the desk while layers are
 /// given and settled.
 #[derive(Drop)]
-pub struct Repairing<'a, D: Desk> {
+pub struct Repairing<'a, 'b, D: Desk, J: Judging> {
     pub desk: &'a mut D,
     pub image: &'a str,
     pub ecc: &'a str,
     pub found: &'a Found,
+    pub judging: &'b J,
     pub course: &'a mut Course,
 }
 
-impl<'a, D: Desk> Filler for Repairing<'a, D> {
+impl<'a, 'b, D: Desk, J: Judging> Filler for Repairing<'a, 'b, D, J> {
     type Stop = FixRefusal;
 
     ghost gave = { λ f. given f.course.now };
@@ -76,12 +77,13 @@ impl<'a, D: Desk> Filler for Repairing<'a, D> {
             self.image,
             self.ecc,
             self.found,
+            self.judging,
             self.course,
         )
     }
 }
 
-impl<'a, D: Desk> Windows<CorrectTask> for Repairing<'a, D> {
+impl<'a, 'b, D: Desk, J: Judging> Windows<CorrectTask> for Repairing<'a, 'b, D, J> {
     ghost left = { λ f. layers_in f.found.now - f.course.now.start };
 
     ghost finished = { λ f. IsFinished f.found.now (D.state f.desk.now) f.course.now };

@@ -1,22 +1,21 @@
 -- What is given of a layer of which all places were read.
-use Rattle.std.proofs.Common.{◌≡◌, ℕ, ◌+◌, ◌-◌, ◌*◌, ◌<◌, ◌≤◌, List, [], length, take, drop, get_or, refl, sym, ap, ◌∙◌, subst, arith, Bool}
+use Rattle.std.proofs.Common.{◌≡◌, ℕ, ◌+◌, ◌-◌, ◌*◌, ◌≤◌, List, [], length, take, drop, get_or, sym, ap, ◌∙◌, subst, arith}
 use Rattle.std.specs.Prelude.{Vec}
 use Rattle.std.specs.declared.alloc.Global.{Global}
 use Rattle.rs01_layers.specs.Layout.{parity_offset}
 use Rattle.rs01_lists.specs.Bytes.{part}
 use Rattle.rs01_outside.specs.DeskState.{DeskState}
 use Rattle.rs01_outside.specs.Files.{bytes_of}
-use Rattle.std.specs.List.{flat_map, range_with_len}
 use Rattle.rs01_layers.specs.Blocks.{blocks_of}
 use Rattle.rs01_layers.specs.Sectors.{length_of}
 use Rattle.rs01_layers.specs.declared.input.LayerInput.{LayerInput}
 use Rattle.rs01_layers.proofs.BlockLemmas.{length-block}
 use Rattle.rs01_ecchead.specs.Erased.{block_in, known_of}
-use Rattle.rs01_erase.specs.Correcting.{AgreeWhereHeld, blocks_in}
-use Rattle.rs01_repair.specs.Finding.{fields_in, is_erased_now, layers_in, recorded_in, said_with}
-use Rattle.rs01_repair.specs.Given.{GivesNext, HoldsLayers, HoldsThese, IsInputNow, IsOfShape, IsReady, places_in}
+use Rattle.rs01_erase.specs.Correcting.{blocks_in}
+use Rattle.rs01_repair.specs.Finding.{fields_in, is_erased_now, layers_in, places_in, recorded_in, said_with}
+use Rattle.rs01_repair.specs.Given.{GivesNext, HoldsLayers, HoldsThese, IsInputNow, IsOfShape, IsReady}
 use Rattle.rs01_repair.specs.declared.batch.Batch.{Batch}
-use Rattle.rs01_repair.specs.Inputs.{IsInput, block_at, blocks_at, flags_at, parity_at, sums_at}
+use Rattle.rs01_repair.specs.Inputs.{IsInput, blocks_at, parity_at, sums_at}
 use Rattle.rs01_repair.specs.Parts.{IsReadFrom}
 use Rattle.rs01_repair.specs.declared.found.Found.{Found}
 use Rattle.rs01_repair.specs.declared.part.Part.{Part}

@@ -49,6 +49,11 @@ block_at-sector f block l p s e =
     cond-true (ltb (place_number f l p) f.sectors) (block (place_number f l p)) (padded 2048 []) (lt-ltb (place_number f l p) f.sectors is.1)
     ∙ ap block (sym is.0)
 
+pub block_at-number : (f : Fields) (block : ℕ → List ℕ) (l p : ℕ) → place_number f l p < f.sectors → block_at f block l p ≡ block (place_number f l p)
+unfolding block_at
+block_at-number f block l p below =
+    cond-true (ltb (place_number f l p) f.sectors) (block (place_number f l p)) (padded 2048 []) (lt-ltb (place_number f l p) f.sectors below)
+
 pub block_at-padding : (f : Fields) (block : ℕ → List ℕ) (l p : ℕ) → None ≡ sector_at f.sectors f.parity l p → block_at f block l p ≡ padded 2048 []
 unfolding block_at
 block_at-padding f block l p e =

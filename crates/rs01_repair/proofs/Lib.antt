@@ -8,5 +8,6 @@ pub mod Counts
 pub mod Intact
 pub mod Joined
 pub mod PartLemmas
+pub mod JudgeLemmas
 pub mod GivenLemmas
 pub mod ParityLemmas

@@ -1,21 +1,20 @@
 -- One more place of a layer.
-use Rattle.std.proofs.Common.{◌≡◌, ℕ, ◌+◌, ◌-◌, ◌*◌, ◌/◌, ◌<◌, ◌≤◌, List, [], ◌∷◌, ◌++◌, length, get_or, take, drop, sym, ap, ◌∙◌, subst, arith, Bool, true, false, cond, set, ⊎_elim}
-use Rattle.std.specs.Prelude.{nat_lt, ◌&&◌, min}
+use Rattle.std.proofs.Common.{◌≡◌, ℕ, ◌+◌, ◌*◌, ◌<◌, ◌≤◌, List, [], length, get_or, drop, sym, ap, ◌∙◌, subst, arith, Bool, true, cond, set, ⊎_elim}
+use Rattle.std.specs.Prelude.{nat_lt, ◌&&◌}
 use Rattle.std.proofs.lemmas.Bool.{cases_eq, cases_lt, false≢true, le-ltb, lt-ltb}
-use Rattle.std.proofs.lemmas.List.{length-append, length-drop, length-take, get_or_append_left, get_or-append_right, get_or_past, get_or-set_other, get_or-set_same}
-use Rattle.rs01_layers.specs.Layout.{number_at}
+use Rattle.std.proofs.lemmas.List.{length-append, length-drop, length-take, get_or-set_other, get_or-set_same}
 use Rattle.rs01_layers.specs.Sectors.{block, length_of}
 use Rattle.rs01_lists.specs.Bytes.{padded}
 use Rattle.rs01_lists.proofs.Padding.{length-padded}
 use Rattle.rs01_ecchead.specs.Erased.{block_in, known_of}
 use Rattle.rs01_ecchead.specs.Header.{Fields}
-use Rattle.rs01_repair.specs.Finding.{fields_in, is_erased_by, is_erased_now}
+use Rattle.rs01_repair.specs.Finding.{fields_in}
 use Rattle.rs01_repair.specs.Inputs.{block_at, flag_at, place_number}
-use Rattle.rs01_repair.specs.Parts.{AddsBlock, AddsPlace, Covers, IsRead, IsReadFrom, IsRunOf, chunk, run_start}
+use Rattle.rs01_repair.specs.Parts.{AddsPlace, Covers, HasBlocks, HasBlocksOf, IsRunOf, chunk, run_start}
 use Rattle.rs01_repair.specs.declared.found.Found.{Found}
 use Rattle.rs01_repair.specs.declared.part.Part.{Part}
 use Rattle.rs01_repair.proofs.CorrectLemmas.{both_parts}
-use Rattle.rs01_repair.proofs.Numbered.{grown, one_more, one_more_piece}
+use Rattle.rs01_repair.proofs.Numbered.{one_more_piece}
 
 -- a block that stands for a place
 length-place : (f : Fields) (bytes : List ℕ) (l p : ℕ) → (place_number f l p < f.sectors → length bytes ≡ 2048) → length (block_at f (λ _. bytes) l p) ≡ 2048
@@ -27,7 +26,7 @@ length-place f bytes l p long =
     (cases_lt (place_number f l p) f.sectors)
 
 -- a flag that is set is that of a sector
-flag_is_sector : (f : Fields) (gone : ℕ → Bool) (l p : ℕ) → flag_at f gone l p ≡ true → place_number f l p < f.sectors
+pub flag_is_sector : (f : Fields) (gone : ℕ → Bool) (l p : ℕ) → flag_at f gone l p ≡ true → place_number f l p < f.sectors
 unfolding flag_at
 flag_is_sector f gone l p e =
     ⊎_elim
@@ -35,26 +34,15 @@ flag_is_sector f gone l p e =
     (λ past. absurd (false≢true (sym (le-ltb (place_number f l p) f.sectors past) ∙ (both_parts (nat_lt (place_number f l p) f.sectors) (gone (place_number f l p)) e).0)))
     (cases_lt (place_number f l p) f.sectors)
 
-flag_there : (flags : List Bool) (flag : Bool) (n q : ℕ) (P : ℕ → Type 0) → length flags ≡ n → ((q : ℕ) → get_or flags q false ≡ true → P q) → (flag ≡ true → P n)
-    → get_or (flags ++ flag ∷ []) q false ≡ true → P q
-flag_there flags flag n q P long before here e =
-    ⊎_elim
-    (λ low. before q (sym (get_or_append_left flags (flag ∷ []) false q (omega arith)) ∙ e))
-    (λ high.
-    ⊎_elim
-    (λ (same : q ≡ n). subst P (sym same) (here (sym (get_or-append_right flags (flag ∷ []) n q false long high ∙ ap (λ k. get_or (flag ∷ []) k false) (let z : q - n ≡ 0 = omega arith in z)) ∙ e)))
-    (λ ne. absurd (false≢true (sym (get_or_past (flags ++ flag ∷ []) q false (let t = length-append flags (flag ∷ []) in omega arith)) ∙ e)))
-    (cases_eq q n))
-    (cases_lt q n)
-
-pub read_more : (f : Fields) (gone : ℕ → Bool) (l p : ℕ) (bytes : List ℕ) (old new : Part) → (place_number f l p < f.sectors → length bytes ≡ 2048) → IsRead f l p old
-    → AddsBlock old new (block_at f (λ _. bytes) l p) (flag_at f gone l p) → IsRead f l (p + 1) new
-read_more f gone l p bytes old new long read adds = record {
-  blocks = ap length adds.blocks ∙ length-append old.blocks.items (block_at f (λ _. bytes) l p) ∙ (let a = read.blocks in let b = length-place f bytes l p long in omega arith);
-  erased = grown old.erased.items new.erased.items (flag_at f gone l p) p read.erased adds.erased;
-  padding = λ q e. flag_there old.erased.items (flag_at f gone l p) p q (λ q. place_number f l q < f.sectors) read.erased read.padding (flag_is_sector f gone l p)
-      (sym (ap (λ xs. get_or xs q false) adds.erased) ∙ e);
-}
+-- one more place was read
+pub places_more : (found : Found) (l p : ℕ) (bytes : List ℕ) (old new : Part) → (place_number (fields_in found) l p < found.ecc.head.sectors → length bytes ≡ 2048)
+    → HasBlocks found p old → AddsPlace found l p bytes old new → HasBlocks found (p + 1) new
+places_more found l p bytes old new long has adds =
+    let f = fields_in found in
+    record {
+      blocks = ap length adds.blocks ∙ length-append old.blocks.items (block_at f (λ _. bytes) l p) ∙ (let a = has.blocks in let b = length-place f bytes l p long in omega arith);
+      erased = ap length adds.erased ∙ has.erased;
+    }
 
 same_block : (f : Fields) (one other : ℕ → List ℕ) (l p : ℕ) → (place_number f l p < f.sectors → one (place_number f l p) ≡ other (place_number f l p)) → block_at f one l p ≡ block_at f other l p
 unfolding block_at
@@ -74,19 +62,13 @@ same_flag f one other l p same =
     (λ past. ap (λ b. b && one n) (le-ltb n f.sectors past) ∙ sym (ap (λ b. b && other n) (le-ltb n f.sectors past)))
     (cases_lt n f.sectors)
 
-pub read_more_from : (found : Found) (file : List ℕ) (l p : ℕ) (bytes : List ℕ) (old new : Part)
+pub blocks_more : (found : Found) (file : List ℕ) (l p : ℕ) (bytes : List ℕ) (old new : Part)
     → (place_number (fields_in found) l p < found.ecc.head.sectors → bytes ≡ block_in (known_of found.ecc) file (place_number (fields_in found) l p))
-    → IsReadFrom found file l p old → AddsPlace found l p bytes old new → IsReadFrom found file l (p + 1) new
-read_more_from found file l p bytes old new is read adds =
+    → HasBlocksOf found file l p old → AddsPlace found l p bytes old new → HasBlocksOf found file l (p + 1) new
+blocks_more found file l p bytes old new is has adds =
     let f = fields_in found in
     let known = known_of found.ecc in
-    record {
-      blocks = one_more_piece (block_at f (block_in known file) l) old.blocks.items new.blocks.items _ p read.blocks
-          (same_block f (λ _. bytes) (block_in known file) l p is) adds.blocks;
-      erased = one_more (flag_at f (is_erased_now known found.size file) l) old.erased.items new.erased.items _ p read.erased
-          (same_flag f (λ s. is_erased_by known found.size s bytes) (is_erased_now known found.size file) l p
-          (λ below. ap (is_erased_by known found.size (place_number f l p)) (is below))) adds.erased;
-    }
+    one_more_piece (block_at f (block_in known file) l) old.blocks.items new.blocks.items _ p has (same_block f (λ _. bytes) (block_in known file) l p is) adds.blocks
 
 -- the block of a layer in a run
 pub run_has : (found : Found) (first p count k : ℕ) (run : List ℕ) → Covers found first p count run → k < count → place_number (fields_in found) (first + k) p < found.ecc.head.sectors

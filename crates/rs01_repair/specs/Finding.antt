@@ -51,15 +51,18 @@ is_erased_by known size s block = is_past known size s || not (is_usable known.s
 abbrev pub is_erased_now : Known → ℕ → List ℕ → ℕ → Bool
 is_erased_now known size y s = is_erased_by known size s (block_in known y s)
 
--- the number of layers, that of one of them, and a place of one
+-- the number of layers and how many places each has, that of one of them, and a place of one
 abbrev pub layers_in : Found → ℕ
 layers_in found = layers_of found.ecc.head.sectors found.ecc.head.parity
+
+abbrev pub places_in : Found → ℕ
+places_in found = 255 - found.ecc.head.parity
 
 abbrev pub IsLayer : Found → ℕ → Type 0
 IsLayer found l = l < layers_in found
 
 abbrev pub IsPlace : Found → ℕ → Type 0
-IsPlace found p = p < 255 - found.ecc.head.parity
+IsPlace found p = p < places_in found
 
 -- the number of a layer and of one of its places
 pub record IsPlaceOf (found : Found) (l p : ℕ) : Type 0 where

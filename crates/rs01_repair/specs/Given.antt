@@ -1,21 +1,17 @@
 -- Layers that were read together, and what is given of each.
-use Rattle.std.specs.Prelude.{ℕ, ◌≡◌, ◌+◌, ◌-◌, ◌*◌, ◌<◌, ◌≤◌, true, false, List, length, slice_index_or}
+use Rattle.std.specs.Prelude.{ℕ, ◌≡◌, ◌+◌, ◌*◌, ◌<◌, ◌≤◌, true, false, List, length, slice_index_or}
 use Rattle.rs01_layers.specs.Layout.{parity_offset}
 use Rattle.rs01_layers.specs.declared.input.LayerInput.{LayerInput}
 use Rattle.rs01_lists.specs.Bytes.{part}
 use Rattle.rs01_outside.specs.DeskState.{DeskState}
 use Rattle.rs01_outside.specs.Files.{bytes_of}
 use Rattle.rs01_ecchead.specs.Erased.{block_in, known_of}
-use Rattle.rs01_repair.specs.Finding.{HasEcc, IsLayer, fields_in, is_erased_now, layers_in, recorded_in, said_with}
+use Rattle.rs01_repair.specs.Finding.{HasEcc, IsLayer, fields_in, is_erased_now, layers_in, places_in, recorded_in, said_with}
 use Rattle.rs01_repair.specs.Inputs.{IsInput, place_number}
 use Rattle.rs01_repair.specs.Parts.{IsRead, IsReadFrom}
 use Rattle.rs01_repair.specs.declared.batch.Batch.{Batch}
 use Rattle.rs01_repair.specs.declared.found.Found.{Found}
 use Rattle.rs01_repair.specs.declared.part.Part.{Part}
-
--- how many places a layer has
-abbrev pub places_in : Found → ℕ
-places_in found = 255 - found.ecc.head.parity
 
 -- an input of one of the layers, with its parity, of which no padding is flagged
 pub record IsOfShape (found : Found) (input : LayerInput) : Type 0 where

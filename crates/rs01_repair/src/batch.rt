@@ -2,11 +2,11 @@
 ghost use Rattle.std.specs.Prelude.{◌≡◌, ◌+◌, ◌-◌, ◌*◌, ◌<◌, ◌≤◌, [], IfOk, List, OnOk, length, ℕ, slice_index_or};
 ghost use Rattle.rs01_outside.specs.DeskState.{InFile, OnlyReads};
 ghost use Rattle.rs01_ecchead.specs.Walked.{is_walk_fault};
-ghost use Rattle.rs01_repair.specs.Finding.{HasEcc, IsLayer, layers_in};
-ghost use Rattle.rs01_repair.specs.Parts.{AreRead, AreReadFrom, IsEmpty};
-ghost use Rattle.rs01_repair.specs.declared.part.Part.{Part as PartValue};
+ghost use Rattle.rs01_repair.specs.Finding.{HasEcc, IsLayer, layers_in, places_in};
+ghost use Rattle.rs01_repair.specs.Parts.{AreRead, AreReadFrom, HaveBlocks, HaveBlocksOf};
 
 use crate::found::Found;
+use crate::judging::Judging;
 use crate::part::{Part, empty_part};
 use crate::place::read_place;
 use rs01_ecchead::{WalkFault, read_bytes};
@@ -28,7 +28,7 @@ pub struct Batch {
     pub parity: Vec<u8>,
 }
 
-ghost use Rattle.rs01_repair.specs.Given.{IsParity, IsReady, places_in};
+ghost use Rattle.rs01_repair.specs.Given.{IsParity, IsReady};
 
 impl Batch {
     /// Nothing was read yet, and the layer `next` is to come.
@@ -48,12 +48,13 @@ impl Batch {
 }
 
 // So many layers of which nothing was read.
-fn empty_parts(alloc: Global, count: u32, places: u32) -> Result<Vec<Part>, AllocError>
-    requires { places ≤ 255 }
+fn empty_parts(alloc: Global, count: u32, found: &Found) -> Result<Vec<Part>, AllocError>
     ensures len { IfOk result (λ parts. length parts.items ≡ count) }
-    ensures empty { IfOk result (λ parts. (j : ℕ) (d : PartValue) → j < count
-        → IsEmpty (slice_index_or parts.items j d)) }
+    ensures none { IfOk result (λ parts. HaveBlocks found.now 0 parts.items) }
+    ensures told { (first : ℕ) (file : List ℕ)
+        → IfOk result (λ parts. HaveBlocksOf found.now file first 0 parts.items) }
 {
+    let places = found.ecc.shape().data();
     let mut parts = Vec::new(alloc);
     for _layer in 0..count {
         parts.push(empty_part(alloc, places)?)?;
@@ -62,11 +63,38 @@ fn empty_parts(alloc: Global, count: u32, places: u32) -> Result<Vec<Part>, Allo
 }
 
 // Reads all places of so many layers from `first` on, each place of all of them at once.
-fn read_layers<D: Desk>(
+fn read_blocks<D: Desk>(
     alloc: Global,
     desk: &mut D,
     image: &str,
     found: &Found,
+    first: u32,
+    count: u32,
+) -> Result<Vec<Part>, WalkFault>
+    requires layers { first + count ≤ layers_in found.now }
+    requires few { count ≤ 16 }
+    ensures reads { OnlyReads (D.state desk.old) (D.state desk.new) (is_walk_fault result) }
+    ensures len { IfOk result (λ parts. length parts.items ≡ count) }
+    ensures blocks { IfOk result (λ parts.
+        HaveBlocks found.now (places_in found.now) parts.items) }
+    ensures told { InFile (D.state desk.old) image.now (λ file. IfOk result (λ parts.
+        HaveBlocksOf found.now file first (places_in found.now) parts.items)) }
+{
+    let mut parts = empty_parts(alloc, count, found)?;
+    let mut buffer = zeroed(alloc, 2048 * MOST as usize)?;
+    for place in 0..found.ecc.shape().data() {
+        read_place(desk, image, found, first, place, &mut buffer, &mut parts)?;
+    }
+    Ok(parts)
+}
+
+// Reads so many layers from `first` on and judges them.
+fn read_layers<D: Desk, J: Judging>(
+    alloc: Global,
+    desk: &mut D,
+    image: &str,
+    found: &Found,
+    judging: &J,
     first: u32,
     count: u32,
 ) -> Result<Vec<Part>, WalkFault>
@@ -79,12 +107,8 @@ fn read_layers<D: Desk>(
     ensures told { InFile (D.state desk.old) image.now (λ file. IfOk result (λ parts.
         AreReadFrom found.now file first (places_in found.now) parts.items)) }
 {
-    let places = found.ecc.shape().data();
-    let mut parts = empty_parts(alloc, count, places)?;
-    let mut buffer = zeroed(alloc, 2048 * MOST as usize)?;
-    for place in 0..places {
-        read_place(desk, image, found, first, place, &mut buffer, &mut parts)?;
-    }
+    let mut parts = read_blocks(alloc, desk, image, found, first, count)?;
+    judging.judge(found, first, &mut parts);
     Ok(parts)
 }
 
@@ -112,12 +136,13 @@ fn read_parity<D: Desk>(
 }
 
 // Reads the next layers in place of those that were given away.
-pub fn refill<D: Desk>(
+pub fn refill<D: Desk, J: Judging>(
     alloc: Global,
     desk: &mut D,
     image: &str,
     ecc: &str,
     found: &Found,
+    judging: &J,
     batch: &mut Batch,
 ) -> Result<(), WalkFault>
     requires { IsLayer found.now batch.old.next }
@@ -130,7 +155,7 @@ pub fn refill<D: Desk>(
 {
     let first = batch.next;
     let count = (found.ecc.shape().layers() - first).min(MOST);
-    batch.parts = read_layers(alloc, desk, image, found, first, count)?;
+    batch.parts = read_layers(alloc, desk, image, found, judging, first, count)?;
     batch.parity = read_parity(alloc, desk, ecc, found, first, count)?;
     batch.first = first;
     Ok(())

@@ -4,13 +4,14 @@ ghost use Rattle.std.specs.List.{range_with_len};
 ghost use Rattle.rs01_lists.specs.Bytes.{part};
 ghost use Rattle.rs01_outside.specs.DeskState.{OnlyReads};
 ghost use Rattle.rs01_ecchead.specs.Walked.{is_walk_fault};
-ghost use Rattle.rs01_repair.specs.Finding.{IsLayer, IsPlaceOf, fields_in, recorded_in};
-ghost use Rattle.rs01_repair.specs.Given.{GivesNext, HasNoNext, HoldsLayers, HoldsThese, IsInputNow, IsOfShape, IsReady, places_in};
+ghost use Rattle.rs01_repair.specs.Finding.{IsLayer, IsPlaceOf, fields_in, places_in, recorded_in};
+ghost use Rattle.rs01_repair.specs.Given.{GivesNext, HasNoNext, HoldsLayers, HoldsThese, IsInputNow, IsOfShape, IsReady};
 ghost use Rattle.rs01_repair.specs.Inputs.{parity_at, sum_at};
 ghost use Rattle.rs01_repair.specs.Parts.{IsRead, IsReadFrom, OthersStay};
 
 use crate::batch::{Batch, refill};
 use crate::found::Found;
+use crate::judging::Judging;
 use crate::part::{Part, no_part};
 use rs01_ecchead::WalkFault;
 use rs01_layers::{Bytes, Flags, LayerInput, SumList};
@@ -125,16 +126,17 @@ fn take_next(alloc: Global, found: &Found, batch: &mut Batch) -> Result<LayerInp
 }
 
 /// What correcting is given of the next layer, or `None` where none is left. Up to 16 layers are read at once: each place
-/// of all of them by one call of the desk, and then their parity by one.
+/// of all of them by one call of the desk, and then their parity by one. They are judged together, as `judging` does it.
 ///
 /// A sector is taken for erased where the image file was too short for it when it was found, or where the block that it
 /// has now isn't usable. Reading fails only where the desk does.
-pub fn next_input<D: Desk>(
+pub fn next_input<D: Desk, J: Judging>(
     alloc: Global,
     desk: &mut D,
     image: &str,
     ecc: &str,
     found: &Found,
+    judging: &J,
     batch: &mut Batch,
 ) -> Result<Option<LayerInput>, WalkFault>
     requires { IsReady found.now image.now ecc.now (D.state desk.old) batch.old }
@@ -149,7 +151,7 @@ pub fn next_input<D: Desk>(
         if batch.next == found.ecc.shape().layers() {
             return Ok(None);
         }
-        refill(alloc, desk, image, ecc, found, batch)?;
+        refill(alloc, desk, image, ecc, found, judging, batch)?;
     }
     Ok(Some(take_next(alloc, found, batch)?))
 }

@@ -4,6 +4,7 @@
 mod batch;
 mod found;
 mod given;
+mod judging;
 pub mod laws;
 mod part;
 mod place;
@@ -12,4 +13,6 @@ mod restored;
 pub use batch::Batch;
 pub use found::Found;
 pub use given::next_input;
+pub use judging::{Beside, InTurn, Judging};
+pub use part::Part;
 pub use restored::{layer_is_restored, restored_block};

@@ -4,7 +4,7 @@ ghost use Rattle.rs01_outside.specs.DeskState.{InFile, OnlyReads};
 ghost use Rattle.rs01_ecchead.specs.Runs.{ReadsRun};
 ghost use Rattle.rs01_ecchead.specs.Walked.{is_walk_fault};
 ghost use Rattle.rs01_repair.specs.Finding.{IsPlace, layers_in};
-ghost use Rattle.rs01_repair.specs.Parts.{AreRead, AreReadFrom, Covers, IsRunOf};
+ghost use Rattle.rs01_repair.specs.Parts.{Covers, HaveBlocks, HaveBlocksOf, IsRunOf};
 
 use crate::found::Found;
 use crate::part::{Part, push_place};
@@ -24,12 +24,12 @@ fn spread(
     requires layers { first + length parts.old ≤ layers_in found.now }
     requires place { IsPlace found.now place }
     requires run { Covers found.now first place (length parts.old) run.now }
-    requires read { AreRead found.now first place parts.old }
+    requires blocks { HaveBlocks found.now place parts.old }
     ensures len { length parts.new ≡ length parts.old }
-    ensures read { OnOk result (AreRead found.now first (place + 1) parts.new) }
+    ensures blocks { OnOk result (HaveBlocks found.now (place + 1) parts.new) }
     ensures told { OnOk result ((file : List ℕ) → IsRunOf found.now file first place run.now
-        → AreReadFrom found.now file first place parts.old
-        → AreReadFrom found.now file first (place + 1) parts.new) }
+        → HaveBlocksOf found.now file first place parts.old
+        → HaveBlocksOf found.now file first (place + 1) parts.new) }
 {
     for k in 0..parts.len() {
         push_place(found, first + k as u32, place, run, k, &mut parts[k])?;
@@ -70,13 +70,13 @@ pub fn read_place<D: Desk>(
     requires layers { first + length parts.old ≤ layers_in found.now }
     requires place { IsPlace found.now place }
     requires room { 2048 * length parts.old ≤ length buffer.old }
-    requires read { AreRead found.now first place parts.old }
+    requires blocks { HaveBlocks found.now place parts.old }
     ensures reads { OnlyReads (D.state desk.old) (D.state desk.new) (is_walk_fault result) }
     ensures len { length parts.new ≡ length parts.old }
-    ensures read { OnOk result (AreRead found.now first (place + 1) parts.new) }
+    ensures blocks { OnOk result (HaveBlocks found.now (place + 1) parts.new) }
     ensures told { InFile (D.state desk.old) image.now (λ file. OnOk result (
-        AreReadFrom found.now file first place parts.old
-        → AreReadFrom found.now file first (place + 1) parts.new)) }
+        HaveBlocksOf found.now file first place parts.old
+        → HaveBlocksOf found.now file first (place + 1) parts.new)) }
 {
     let shape = found.ecc.shape();
     let start = first + place * shape.layers();

@@ -1,4 +1,4 @@
-use Rattle.std.specs.Prelude.{false, refl}
+use Rattle.std.specs.Prelude.{false}
 use Rattle.std.proofs.Common.{arith}
 use Rattle.rs01_fix.proofs.CourseLemmas.{gives_layer, gives_none, goes_read, if_none, if_some, next_later}
 use Rattle.rs01_fix.proofs.repair.next_layer.Goals as goal

@@ -1,4 +1,4 @@
-use Rattle.std.proofs.Common.{◌≡◌, ◌∙◌, ◌+◌, ◌≤◌, ℕ, arith, length, refl, subst, sym, false, true}
+use Rattle.std.proofs.Common.{◌∙◌, ◌+◌, ℕ, arith, length, refl, subst, false, true}
 use Rattle.rs01_repair.specs.Finding.{answer_to, said}
 use Rattle.rs01_repair.proofs.GivenLemmas.{ready_new}
 use Rattle.rs01_fix.specs.Steps.{HasRoom, sources}

@@ -1,7 +1,7 @@
-use Rattle.std.proofs.Common.{◌≡◌, ◌≢◌, ◌∙◌, ◌+◌, ◌-◌, ◌<◌, ℕ, arith, ap, sym, subst, ⊎_elim, get_or, false}
+use Rattle.std.proofs.Common.{◌≡◌, ◌∙◌, arith, ap, sym, ⊎_elim, get_or, false}
 use Rattle.std.specs.Prelude.{Some}
 use Rattle.std.proofs.lemmas.Bool.{cases_eq}
-use Rattle.rs01_layers.specs.Layout.{layer_of, place_of, sector_at}
+use Rattle.rs01_layers.specs.Layout.{place_of, sector_at}
 use Rattle.rs01_layers.proofs.PlaceLemmas.{each_sector_has_a_place, each_sector_has_one_place}
 use Rattle.rs01_ecchead.proofs.Shapes.{is_shape}
 use Rattle.rs01_fix.proofs.repairs.flag_layer.Goals as goal

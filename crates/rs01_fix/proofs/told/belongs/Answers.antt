@@ -1,4 +1,4 @@
-use Rattle.std.proofs.Common.{◌≡◌, ◌∙◌, ◌<◌, arith, length, ap, sym, false}
+use Rattle.std.proofs.Common.{◌≡◌, ◌∙◌, arith, ap, sym, false}
 use Rattle.std.specs.Prelude.{not}
 use Rattle.rs01_layers.specs.Layout.{layer_of}
 use Rattle.rs01_layers.proofs.PlaceLemmas.{each_sector_has_a_place}

@@ -1,4 +1,4 @@
-use Rattle.std.proofs.Common.{◌≡◌, ◌+◌, false}
+use Rattle.std.proofs.Common.{◌+◌, false}
 use Rattle.std.specs.Prelude.{IsTrue}
 use Rattle.rs01_outside.specs.DeskState.{OnlyChanges}
 use Rattle.rs01_repair.specs.Finding.{Sources}

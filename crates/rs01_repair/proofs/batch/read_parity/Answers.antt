@@ -1,6 +1,5 @@
-use Rattle.std.proofs.Common.{◌≡◌, ◌∙◌, ◌+◌, ◌*◌, ◌≤◌, List, ℕ, length, ap, arith}
-use Rattle.rs01_layers.specs.Layout.{file_size, layers_of, parity_offset}
-use Rattle.rs01_lists.specs.Bytes.{part}
+use Rattle.std.proofs.Common.{◌≡◌, ◌∙◌, ◌*◌, ap}
+use Rattle.rs01_layers.specs.Layout.{parity_offset}
 use Rattle.rs01_ecchead.proofs.Parts.{whole_piece}
 use Rattle.rs01_repair.proofs.ParityLemmas.{parity_run}
 use Rattle.rs01_repair.proofs.batch.read_parity.Goals as goal

@@ -1,4 +1,4 @@
-use Rattle.std.proofs.Common.{◌≡◌, ◌∙◌, ◌-◌, ap, arith, length}
+use Rattle.std.proofs.Common.{◌∙◌, ap, arith, length}
 use Rattle.rs01_repair.specs.Finding.{fields_in}
 use Rattle.rs01_repair.proofs.GivenLemmas.{input_now}
 use Rattle.rs01_repair.proofs.InputLemmas.{length-sums_at, parity_given, sums_are}

@@ -1,5 +1,4 @@
 use Rattle.std.proofs.Common.{◌≡◌, ◌∙◌, ap, sym, subst}
-use Rattle.rs01_outside.specs.DeskState.{DeskState}
 use Rattle.rs01_repair.specs.Given.{IsReady}
 use Rattle.rs01_repair.specs.declared.batch.Batch.{Batch}
 use Rattle.rs01_repair.proofs.GivenLemmas.{gives_next}

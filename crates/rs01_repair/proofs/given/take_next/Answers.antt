@@ -1,6 +1,6 @@
-use Rattle.std.proofs.Common.{◌≡◌, ◌∙◌, ◌+◌, ◌-◌, ◌*◌, ◌<◌, ◌≤◌, ℕ, List, length, ap, arith, sym, subst}
+use Rattle.std.proofs.Common.{◌≡◌, ◌∙◌, ◌+◌, ◌-◌, ◌*◌, ◌<◌, ℕ, List, length, ap, arith, sym, subst}
 use Rattle.rs01_lists.specs.Bytes.{part}
-use Rattle.rs01_repair.specs.Given.{places_in}
+use Rattle.rs01_repair.specs.Finding.{places_in}
 use Rattle.rs01_repair.specs.Parts.{IsReadFrom}
 use Rattle.rs01_repair.specs.declared.part.Part.{Part}
 use Rattle.rs01_repair.proofs.GivenLemmas.{these_left}

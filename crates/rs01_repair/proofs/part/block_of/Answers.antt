@@ -1,4 +1,4 @@
-use Rattle.std.proofs.Common.{◌≡◌, ◌*◌, List, ℕ, take, drop, ap, ◌∙◌}
+use Rattle.std.proofs.Common.{◌*◌, take, ap, ◌∙◌}
 use Rattle.std.proofs.lemmas.List.{take_rest}
 use Rattle.rs01_repair.specs.Parts.{chunk}
 use Rattle.rs01_repair.proofs.part.block_of.Goals as goal

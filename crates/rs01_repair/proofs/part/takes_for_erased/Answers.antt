@@ -1,8 +1,7 @@
 use Rattle.std.proofs.Common.{◌∙◌, ap, sym}
 use Rattle.std.specs.Prelude.{◌||◌, not, Some}
-use Rattle.rs01_ecchead.specs.Erased.{known_of}
 use Rattle.rs01_sums.specs.Usable.{is_usable}
-use Rattle.rs01_repair.specs.Finding.{is_erased_by, is_past}
+use Rattle.rs01_repair.specs.Finding.{is_erased_by}
 use Rattle.rs01_repair.proofs.part.takes_for_erased.Goals as goal
 
 pub returns-then-is_absent : goal.returns-then-is_absent

@@ -1,4 +1,4 @@
-use Rattle.std.proofs.Common.{◌≡◌, ◌∙◌, ◌+◌, ◌*◌, ℕ, List, subst}
+use Rattle.std.proofs.Common.{◌≡◌, ◌∙◌, ◌+◌, ◌*◌, ℕ, subst}
 use Rattle.rs01_ecchead.specs.Runs.{IsRun}
 use Rattle.rs01_outside.specs.Files.{bytes_of}
 use Rattle.rs01_layers.specs.Layout.{layers_of}

@@ -1,16 +1,11 @@
-use Rattle.std.proofs.Common.{◌≡◌, ◌+◌, ◌*◌, ◌<◌, ◌≤◌, length, ℕ, get_or, sym, subst, arith}
-use Rattle.rs01_ecchead.specs.Erased.{known_of}
-use Rattle.rs01_repair.specs.Finding.{fields_in, is_erased_by}
-use Rattle.rs01_repair.specs.Inputs.{place_number}
-use Rattle.rs01_repair.specs.Parts.{IsRead, IsReadFrom, chunk}
-use Rattle.rs01_repair.specs.declared.part.Part.{Part}
-use Rattle.rs01_repair.proofs.PartLemmas.{long_part, read_more, read_more_from, run_gives, run_has, set_done, set_left}
+use Rattle.std.proofs.Common.{◌+◌, ◌<◌, length, get_or, arith}
+use Rattle.rs01_repair.specs.Parts.{HasBlocks, HasBlocksOf, chunk}
+use Rattle.rs01_repair.proofs.PartLemmas.{blocks_more, long_part, places_more, run_gives, run_has, set_done, set_left}
 use Rattle.rs01_repair.proofs.place.spread.Goals as goal
 
 pub loop-k-preserved : goal.loop-k-preserved
 loop-k-preserved c =
     let found = c.args.found.now in
-    let f = fields_in found in
     let p = c.args.place in
     let k = c.loop-k.k in
     let parts = c.loop-k.parts in
@@ -24,16 +19,16 @@ loop-k-preserved c =
     let here : k < length parts = omega arith in
     let adds = c.in_ok-push_place.ensures in
     record {
-      done = set_done (λ j x. IsRead f (c.args.first + j) (p + 1) x) parts k new here inv.done
-          (read_more f (λ s. is_erased_by (known_of found.ecc) found.size s bytes) (c.args.first + k) p bytes old new
+      done = set_done (λ j x. HasBlocks found (p + 1) x) parts k new here inv.done
+          (places_more found (c.args.first + k) p bytes old new
           (λ below. long_part c.args.run.now k (run_has found c.args.first p count k c.args.run.now c.requires.run low below))
           (inv.left k item (omega arith) low) adds);
-      left = set_left (λ j x. IsRead f (c.args.first + j) p x) parts k count new inv.left;
+      left = set_left (λ j x. HasBlocks found p x) parts k count new inv.left;
       told = λ file is from.
           let was = inv.told file is from in (
-            set_done (λ j x. IsReadFrom found file (c.args.first + j) (p + 1) x) parts k new here was.0
-                (read_more_from found file (c.args.first + k) p bytes old new (run_gives found file c.args.first p count k c.args.run.now c.requires.run is low)
+            set_done (λ j x. HasBlocksOf found file (c.args.first + j) (p + 1) x) parts k new here was.0
+                (blocks_more found file (c.args.first + k) p bytes old new (run_gives found file c.args.first p count k c.args.run.now c.requires.run is low)
                 (was.1 k item (omega arith) low) adds),
-            set_left (λ j x. IsReadFrom found file (c.args.first + j) p x) parts k count new was.1,
+            set_left (λ j x. HasBlocksOf found file (c.args.first + j) p x) parts k count new was.1,
           );
     }
