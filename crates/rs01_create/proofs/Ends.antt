@@ -12,8 +12,8 @@ use Rattle.rs01_report.specs.declared.reports.CreateReport.{CreateReport}
 use Rattle.rs01_create.specs.Answer.{Answers, Creates, IsOfMaking, Leaves, LeavesUnder, Makes, is_read_fault, is_write_fault}
 use Rattle.rs01_create.specs.Beginning.{IsStart}
 use Rattle.rs01_create.specs.Create.{refusal_of}
-use Rattle.rs01_create.specs.Creating.{AreAdded, IsCreate, IsStarted, IsWorked}
-use Rattle.rs01_create.specs.Ending.{Ends, IsWhole, TellsEnd}
+use Rattle.rs01_create.specs.Creating.{IsCreate, IsStarted, IsWorked}
+use Rattle.rs01_create.specs.Ending.{IsWhole, TellsEnd}
 use Rattle.rs01_create.specs.Looking.{IsFoundOf, LooksAt}
 use Rattle.rs01_layers.specs.Extents.{IsExtentOf}
 use Rattle.rs01_create.specs.Making.{CountsAs, IsQuiet, Leads, Moment, faults_of, moment}
@@ -23,7 +23,7 @@ use Rattle.rs01_create.specs.declared.found.Found.{Found}
 use Rattle.rs01_create.specs.declared.plan.Plan.{Plan}
 use Rattle.rs01_create.specs.declared.refusal.CreateRefusal.{CreateRefusal}
 use Rattle.rs01_create.specs.declared.refusal.CreateRefusal.TheVariants.{NoImage, EmptyImage, TooManySectors, Marker, ReadFault, WriteFault, OutOfMemory}
-use Rattle.rs01_create.proofs.Makings.{Between, at_start, between, ended, stands_whole}
+use Rattle.rs01_create.proofs.Makings.{at_start, between, ended, stands_whole}
 use Rattle.rs01_create.proofs.Writes.{headless_begun}
 
 -- what a refusal says doesn't depend on what would have been answered in its place

@@ -7,7 +7,7 @@ use Rattle.std.proofs.Math.ListN.{get_or-append}
 use Rattle.std.proofs.Math.Seq.{get_or-append_seam}
 use Rattle.std.proofs.lemmas.List.{length-append}
 use Rattle.rs01_layers.specs.Blocks.{blocks_of}
-use Rattle.rs01_layers.specs.Layer.{layer, layer_bytes}
+use Rattle.rs01_layers.specs.Layer.{layer_bytes}
 use Rattle.rs01_layers.specs.declared.input.LayerInput.{LayerInput}
 use Rattle.rs01_layers.proofs.BlockLemmas.{blocks_of-layer_bytes}
 use Rattle.rs01_lists.proofs.Ranges.{range_with_len_more}

@@ -1,4 +1,5 @@
 mod Ends
+mod Gathering
 mod Givings
 mod Looks
 mod Makings

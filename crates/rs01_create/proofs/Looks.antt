@@ -13,7 +13,7 @@ use Rattle.rs01_sums.specs.Crc.{crc}
 use Rattle.rs01_ecchead.specs.EccFile.{mark_sector_of, sum_bytes}
 use Rattle.rs01_ecchead.specs.declared.walk.WalkFault.{WalkFault}
 use Rattle.rs01_ecchead.specs.declared.walk.WalkFault.TheVariants as walk
-use Rattle.rs01_create.specs.Create.{refusal_of, size_refusal}
+use Rattle.rs01_create.specs.Create.{refusal_of}
 use Rattle.rs01_create.specs.Looking.{IsAccepted, IsMeasured, IsPlanOf, Looks, walk_refusal}
 use Rattle.rs01_create.specs.Surveyed.{Surveyed, SurveyedBy}
 use Rattle.rs01_create.specs.declared.found.Found.{Found}
@@ -76,7 +76,7 @@ pub record IsSeen (file : Option (List ℕ)) (n : ℕ) (plan : Plan) (seen : See
   pub there : file ≡ Some (unwrap_or file [])
   pub extended : IsExtentOf (unwrap_or file []) plan.extent
   pub surveyed : Surveyed (unwrap_or file []) plan.extent.sectors seen
-  pub refusal : refusal_of file ≡ option_map Marker seen.marked
+  pub refusal : refusal_of file ≡ option_map Marker seen.noted.marked
 
 pub seen_under : (f0 f1 : Files) (name : List ℕ) (n r : ℕ) (plan : Plan) (seen : Seen) → Some n ≡ option_map length (f0 name) → f1 ≡ f0 → IsPlanOf n r plan
     → SurveyedBy plan.extent n (bytes_of f1 name) seen → IsSeen (f0 name) n plan seen
@@ -91,8 +91,8 @@ seen_under f0 f1 name n r plan seen e still of by =
       extended = extended;
       surveyed = surveyed;
       refusal =
-          by_marker (f0 name) n image seen.marked e (λ file f l. let g : Some image ≡ Some file = sym at.0 ∙ f in ap (λ (x : Option (List ℕ)). unwrap_or x []) g) of.accepted
-          (marked_is image plan.extent.sectors seen.marked extended.sectors (sym surveyed.marked));
+          by_marker (f0 name) n image seen.noted.marked e (λ file f l. let g : Some image ≡ Some file = sym at.0 ∙ f in ap (λ (x : Option (List ℕ)). unwrap_or x []) g) of.accepted
+          (marked_is image plan.extent.sectors seen.noted.marked extended.sectors (sym surveyed.noted.marked));
     }
 
 sums_whole : (image : List ℕ) (n : ℕ) → n ≡ sectors_of (length image)
@@ -101,12 +101,12 @@ unfolding sum_bytes
 sums_whole image n e = ap (λ k. flat_map (λ s. to_le_bytes w32 (crc (sector image s))) (range_with_len 0 k)) e
 
 -- its checksums are those of the image
-pub summed : (file : Option (List ℕ)) (n : ℕ) (plan : Plan) (seen : Seen) → IsSeen file n plan seen → seen.sums.items ≡ sum_bytes (unwrap_or file [])
-summed file n plan seen is = is.surveyed.sums ∙ sums_whole (unwrap_or file []) plan.extent.sectors is.extended.sectors
+pub summed : (file : Option (List ℕ)) (n : ℕ) (plan : Plan) (seen : Seen) → IsSeen file n plan seen → seen.noted.sums.items ≡ sum_bytes (unwrap_or file [])
+summed file n plan seen is = is.surveyed.noted.sums ∙ sums_whole (unwrap_or file []) plan.extent.sectors is.extended.sectors
 
 -- one that isn't marked is accepted
-pub accepted : (file : Option (List ℕ)) (n : ℕ) (plan : Plan) (seen : Seen) (found : Found) → IsSeen file n plan seen → seen.marked ≡ None
-    → found.plan ≡ plan → found.fingerprint ≡ seen.fingerprint
+pub accepted : (file : Option (List ℕ)) (n : ℕ) (plan : Plan) (seen : Seen) (found : Found) → IsSeen file n plan seen → seen.noted.marked ≡ None
+    → found.plan ≡ plan → found.fingerprint ≡ seen.noted.fingerprint
     → ((m : List ℕ) → Holds seen.hasher m → found.image_sum ≡ md5 m) → IsAccepted file found
 accepted file n plan seen found is none same fingerprint digest =
     let image : List ℕ = unwrap_or file [] in
@@ -121,7 +121,7 @@ accepted file n plan seen found is none same fingerprint digest =
       found_is = record {
         extended = subst (λ (p : Plan). IsExtentOf image p.extent) (sym same) is.extended;
         image_sum = digest _ is.surveyed.held ∙ ap md5 (ap (λ k. take k image) whole ∙ take_all (length image) image (omega arith));
-        fingerprint = fingerprint ∙ is.surveyed.fingerprint marked;
+        fingerprint = fingerprint ∙ is.surveyed.noted.fingerprint marked;
       };
     }
 

@@ -1,31 +1,24 @@
 -- The file of an image, from its beginning to its end.
-use Rattle.std.proofs.Common.{◌≡◌, ◌≢◌, ℕ, ◌+◌, List, [], ◌++◌, length, refl, sym, ap, subst, ◌∙◌, arith, append-nil, Bool, true, false}
-use Rattle.std.specs.Prelude.{IsTrue, Option, Some, None, Result, Ok, Err}
+use Rattle.std.proofs.Common.{◌≡◌, ◌≢◌, ℕ, List, [], ◌++◌, length, refl, sym, ap, subst, ◌∙◌, arith, append-nil, false}
+use Rattle.std.specs.Prelude.{IsTrue, Some}
 use Rattle.std.specs.List.{flat_map, range_with_len}
 use Rattle.std.specs.Global.{Vec}
 use Rattle.md5.specs.Md5.{Holds}
-use Rattle.md5.specs.declared.Md5.{Md5}
 use Rattle.rs01_layers.specs.Layout.{layers_of}
 use Rattle.rs01_layers.specs.Sectors.{sectors_of}
 use Rattle.rs01_lists.specs.Bytes.{zeros}
-use Rattle.rs01_outside.specs.DeskState.{DeskState, OnlyChanges, WorksOn}
-use Rattle.rs01_outside.specs.Files.{Becomes, Files, SameElsewhere, bytes_of}
-use Rattle.rs01_ecchead.specs.EccFile.{body, ecc_file, head_fields, layer_parity, parity_bytes, sum_bytes}
-use Rattle.rs01_ecchead.specs.Header.{head_bytes}
-use Rattle.rs01_report.specs.declared.reports.CreateReport.{CreateReport}
-use Rattle.rs01_create.specs.Answer.{is_read_fault, is_write_fault}
+use Rattle.rs01_outside.specs.DeskState.{DeskState, OnlyChanges}
+use Rattle.rs01_outside.specs.Files.{Becomes, SameElsewhere, bytes_of}
+use Rattle.rs01_ecchead.specs.EccFile.{body, layer_parity, parity_bytes, sum_bytes}
 use Rattle.rs01_create.specs.Beginning.{IsStart}
 use Rattle.rs01_create.specs.Ending.{IsWhole}
 use Rattle.rs01_create.specs.Looking.{IsFoundOf}
-use Rattle.rs01_create.specs.Making.{AtWork, CountsAs, HasBody, HasStopped, IsAhead, IsFinished, Leads, Moment, body_to, faults_of, layers, moment}
-use Rattle.rs01_create.specs.Unfinished.{IsUnfinished}
-use Rattle.rs01_create.specs.Windows.{HoldsLayers}
+use Rattle.rs01_create.specs.Making.{AtWork, HasBody, IsAhead, IsFinished, Leads, Moment, body_to, faults_of, moment}
 use Rattle.rs01_create.specs.declared.course.Course.{Course}
 use Rattle.rs01_create.specs.declared.found.Found.{Found}
 use Rattle.rs01_create.specs.declared.plan.Plan.{Plan}
-use Rattle.rs01_create.specs.declared.refusal.CreateRefusal.{CreateRefusal}
 use Rattle.rs01_create.proofs.Settlings.{same_image}
-use Rattle.rs01_create.proofs.Writes.{elsewhere_twice, headless_begun}
+use Rattle.rs01_create.proofs.Writes.{elsewhere_twice}
 
 -- the body as far as no layer
 body_none : (image : List ℕ) (r : ℕ) → sum_bytes image ≡ body_to image r 0

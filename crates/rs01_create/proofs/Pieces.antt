@@ -1,5 +1,5 @@
 -- The blocks of neighbouring layers, place by place.
-use Rattle.std.proofs.Common.{◌≡◌, ℕ, ◌+◌, ◌-◌, ◌*◌, ◌/◌, ◌<◌, ◌≤◌, List, [], ◌∷◌, ◌++◌, length, take, drop, get_or, min, refl, sym, ap, subst, ◌∙◌, arith, add-one, append_assoc, append-nil, cond, ltb, ⊎_elim}
+use Rattle.std.proofs.Common.{◌≡◌, ℕ, ◌+◌, ◌-◌, ◌*◌, ◌/◌, ◌<◌, ◌≤◌, List, [], ◌∷◌, ◌++◌, length, drop, get_or, min, refl, sym, ap, ◌∙◌, arith, add-one, ltb, ⊎_elim}
 use Rattle.std.specs.List.{flat_map, range_with_len}
 use Rattle.std.specs.Global.{Vec}
 use Rattle.std.proofs.lemmas.Bool.{cases_lt, lt-ltb, le-ltb, cond-true, cond-false}
@@ -14,7 +14,7 @@ use Rattle.rs01_lists.specs.Bytes.{padded, part, zeros}
 use Rattle.rs01_lists.proofs.Flats.{flat_more}
 use Rattle.rs01_lists.proofs.Padding.{length-zeros}
 use Rattle.rs01_ecchead.specs.Runs.{IsRun}
-use Rattle.rs01_create.specs.Windows.{AllGrow, AllLong, AllLongerBy, HoldsBlocks, HoldsLayers, HoldsPlace, blocks_to, in_run}
+use Rattle.rs01_create.specs.Windows.{AllGrow, AllLong, AllLongerBy, HoldsBlocks, HoldsLayers, HoldsPlace, in_run}
 
 -- a block that is in the run, and one that isn't
 pub in_run_there : (run : List ℕ) (i : ℕ) → i < length run / 2048 → in_run run i ≡ part run (2048 * i) 2048

@@ -1,6 +1,6 @@
 -- Putting the parity of a window's layers into the file.
-use Rattle.std.proofs.Common.{◌≡◌, ◌≢◌, ℕ, zero, suc, ◌+◌, ◌-◌, ◌*◌, ◌<◌, ◌≤◌, List, [], ◌∷◌, ◌++◌, length, map, take, get_or, refl, sym, ap, subst, ◌∙◌, arith, append_assoc, append-nil, add-one, ⊎_elim, ◌⊎◌, Bool, true, false}
-use Rattle.std.specs.Prelude.{All, IsSome, IsTrue, Option, Some, slice_get}
+use Rattle.std.proofs.Common.{◌≡◌, ◌≢◌, ℕ, suc, ◌+◌, ◌-◌, ◌*◌, ◌<◌, ◌≤◌, List, [], ◌∷◌, ◌++◌, length, map, take, get_or, refl, sym, ap, subst, ◌∙◌, arith, append_assoc, append-nil, add-one, ⊎_elim, ◌⊎◌, true, false}
+use Rattle.std.specs.Prelude.{All, IsSome, IsTrue, Some, slice_get}
 use Rattle.std.specs.Global.{Vec}
 use Rattle.std.specs.Option.{unwrap_or}
 use Rattle.std.specs.List.{flat_map, range_with_len}
@@ -11,7 +11,6 @@ use Rattle.std.proofs.lemmas.Option.{get_or_from_slice_get, slice_get_within}
 use Rattle.std.proofs.lemmas.List.Concat.{flat_map-append}
 use Rattle.std.proofs.lemmas.List.Elements.{All-cons, All-head, All-nil, All-tail}
 use Rattle.md5.specs.Md5.{Holds}
-use Rattle.md5.specs.declared.Md5.{Md5}
 use Rattle.rs01_encode.specs.Task.{encoded, parity_of}
 use Rattle.rs01_layers.specs.Blocks.{blocks_of}
 use Rattle.rs01_layers.specs.Extents.{IsExtentOf}

@@ -1,11 +1,8 @@
 -- What holds of every attempt to make the file of an image, however its windows are worked, and of its parts.
-use Rattle.std.specs.Prelude.{ℕ, ◌≡◌, ◌<◌, Bool, false, IsTrue, List, ◌++◌, Result, Ok, Err, IfErr, OnOk}
-use Rattle.rs01_lists.specs.Bytes.{zeros}
+use Rattle.std.specs.Prelude.{ℕ, ◌≡◌, ◌<◌, false, List, Result, Ok, Err, IfErr, OnOk}
 use Rattle.rs01_outside.specs.DeskState.{DeskState, OnlyChanges, OnlyReads}
-use Rattle.rs01_outside.specs.Files.{Becomes}
 use Rattle.rs01_report.specs.declared.reports.CreateReport.{CreateReport}
 use Rattle.rs01_create.specs.Answer.{Answers, Works}
-use Rattle.rs01_create.specs.Beginning.{IsStart}
 use Rattle.rs01_create.specs.Looking.{LooksAt}
 use Rattle.rs01_create.specs.Making.{AtWork, HasStopped, IsFinished, Leads, faults_of, moment}
 use Rattle.rs01_create.specs.declared.course.Course.{Course}

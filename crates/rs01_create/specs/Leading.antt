@@ -1,7 +1,6 @@
 -- What the steps of making a file leave, one after the other.
 use Rattle.std.proofs.Common.{◌≡◌, ◌-◌, ◌≤◌, refl, sym, ap, subst, ◌∙◌, arith}
 use Rattle.std.specs.Prelude.{IsTrue}
-use Rattle.rs01_outside.specs.Files.{SameElsewhere}
 use Rattle.rs01_create.specs.Making.{Leads, Moment, layers}
 
 pub leads-same : (m : Moment) → Leads m m

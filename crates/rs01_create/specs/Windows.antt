@@ -1,9 +1,9 @@
 -- The blocks of neighbouring layers, of which the last comes first.
-use Rattle.std.specs.Prelude.{ℕ, ◌≡◌, ◌+◌, ◌-◌, ◌*◌, ◌/◌, ◌<◌, nat_lt, if◌then◌else◌, List, [], ◌++◌, length, slice_index_or}
+use Rattle.std.specs.Prelude.{ℕ, ◌≡◌, ◌+◌, ◌-◌, ◌*◌, ◌/◌, ◌<◌, nat_lt, if◌then◌else◌, List, ◌++◌, length, slice_index_or}
 use Rattle.std.specs.Global.{Vec}
 use Rattle.std.specs.List.{flat_map, range_with_len}
 use Rattle.rs01_layers.specs.Layer.{block_at, layer_bytes}
-use Rattle.rs01_lists.specs.Bytes.{padded, part, zeros}
+use Rattle.rs01_lists.specs.Bytes.{part, zeros}
 
 -- block i of a run of sectors, and zeros where the run has ended
 abbrev pub in_run : List ℕ → ℕ → List ℕ

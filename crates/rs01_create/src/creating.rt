@@ -5,6 +5,7 @@ ghost use Rattle.rs01_create.specs.Creating.{IsCreate, IsWorked};
 
 use crate::adding::{add_layers, add_layers_one};
 use crate::course::Course;
+use crate::digesting::{Beside, InTurn};
 use crate::ending::end_file;
 use crate::found::Found;
 use crate::refusal::CreateRefusal;
@@ -57,7 +58,7 @@ pub fn create_one<D: Desk>(
     requires parity { (8 ≤ parity) × (parity ≤ 100) }
     ensures { IsCreate image.now ecc.now parity (D.state desk.old) (D.state desk.new) result }
 {
-    match look_and_begin(alloc, desk, image, ecc, parity) {
+    match look_and_begin(alloc, desk, image, ecc, parity, &InTurn) {
         Ok(
             Start {
                 found,
@@ -92,7 +93,8 @@ pub fn create<R: Threads + Wait + Sync, D: Desk, G: Gate>(
     requires workers { (1 ≤ workers) × (workers ≤ 32) }
     ensures { IsCreate image.now ecc.now parity (D.state desk.old) (D.state desk.new) result }
 {
-    match look_and_begin(alloc, desk, image, ecc, parity) {
+    let digesting = Beside { rt, workers };
+    match look_and_begin(alloc, desk, image, ecc, parity, &digesting) {
         Ok(
             Start {
                 found,

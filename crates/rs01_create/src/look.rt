@@ -4,10 +4,11 @@ ghost use Rattle.rs01_outside.specs.DeskState.{OnlyReads};
 ghost use Rattle.rs01_create.specs.Answer.{is_read_fault};
 ghost use Rattle.rs01_create.specs.Looking.{HasSums, IsMeasured, LooksAt};
 
+use crate::digesting::Digesting;
 use crate::found::Found;
 use crate::plan::Plan;
 use crate::refusal::CreateRefusal;
-use crate::survey::{Surveyor, survey_image};
+use crate::survey::survey_image;
 use md5::Digest;
 use rs01_layers::{Extent, Shape};
 use rs01_outside::{Desk, Failed};
@@ -33,11 +34,12 @@ fn measure(size: u64, parity: u32) -> Result<Plan, CreateRefusal>
 }
 
 // Looks at all of an image that can be protected, or tells why it can't. No file changes.
-pub fn look<D: Desk>(
+pub fn look<D: Desk, G: Digesting>(
     alloc: Global,
     desk: &mut D,
     name: &str,
     parity: u32,
+    digesting: &G,
 ) -> Result<Found, CreateRefusal>
     requires least { 8 ≤ parity }
     requires most { parity ≤ 100 }
@@ -54,18 +56,15 @@ pub fn look<D: Desk>(
         Err(Failed) => return Err(CreateRefusal::ReadFault),
     };
     let plan = measure(size, parity)?;
-    let surveyor = Surveyor {
-        extent: plan.extent,
-    };
-    let seen = survey_image(alloc, desk, name, size, &surveyor)?;
-    match seen.marked {
+    let seen = survey_image(alloc, desk, name, size, plan.extent, digesting)?;
+    match seen.noted.marked {
         Some(sector) => Err(CreateRefusal::Marker(sector)),
         None => {
             let image_sum = seen.hasher.finalize();
-            let fingerprint = seen.fingerprint;
+            let fingerprint = seen.noted.fingerprint;
             Ok(Found {
                 plan,
-                sums: seen.sums,
+                sums: seen.noted.sums,
                 image_sum,
                 fingerprint,
             })

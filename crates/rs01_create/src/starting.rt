@@ -4,6 +4,7 @@ ghost use Rattle.rs01_create.specs.Creating.{IsCreate, IsStarted};
 
 use crate::beginning::begin;
 use crate::course::Course;
+use crate::digesting::Digesting;
 use crate::found::Found;
 use crate::look::look;
 use crate::refusal::CreateRefusal;
@@ -41,12 +42,13 @@ fn let_go(alloc: Global, found: Found) -> Found
 }
 
 // Looks at an image, and begins its file.
-pub fn look_and_begin<D: Desk>(
+pub fn look_and_begin<D: Desk, G: Digesting>(
     alloc: Global,
     desk: &mut D,
     image: &str,
     ecc: &str,
     parity: u32,
+    digesting: &G,
 ) -> Result<Start, CreateRefusal>
     requires differ { image.now ≢ ecc.now }
     requires parity { (8 ≤ parity) × (parity ≤ 100) }
@@ -55,7 +57,7 @@ pub fn look_and_begin<D: Desk>(
     ensures refused { IfErr result (λ why. IsCreate image.now ecc.now parity
         (D.state desk.old) (D.state desk.new) (Err why)) }
 {
-    match look(alloc, desk, image, parity) {
+    match look(alloc, desk, image, parity, digesting) {
         Ok(found) => {
             let Ok(task) = EncodeTask::new(alloc, parity) else {
                 return Err(CreateRefusal::OutOfMemory);

@@ -1,122 +1,111 @@
 //! One pass over an image, which takes its checksums and digests and looks for a marker.
-ghost use Rattle.std.specs.Prelude.{◌≡◌, ◌==◌, ◌++◌, ◌-◌, ◌≤◌, if◌then◌else◌, IfOk, OnOk, min};
-ghost use Rattle.std.specs.Int.{to_le_bytes, w32};
-ghost use Rattle.std.specs.Option.{option_or};
-ghost use Rattle.std.specs.Str.{bytes_eq};
-ghost use Rattle.md5.specs.Md5.{md5};
+ghost use Rattle.std.specs.Prelude.{◌≡◌, ◌≤◌, ◌++◌, [], IfOk, OnOk};
 ghost use Rattle.rs01_outside.specs.DeskState.{InFile, OnlyReads};
-ghost use Rattle.rs01_sums.specs.Crc.{crc};
-ghost use Rattle.rs01_sums.specs.Marker.{marker};
 ghost use Rattle.rs01_ecchead.specs.Walked.{is_walk_fault};
-ghost use Rattle.rs01_create.specs.Surveyed.{SurveyedBy};
+ghost use Rattle.rs01_create.specs.Surveyed.{Gathers, SeesAll, SurveyedBy};
 
-use crate::found::Seen;
+use crate::digesting::Digesting;
+use crate::found::{Gathered, Noted, Seen};
 use md5::{Digest, Md5};
 use rs01_ecchead::{Visitor, WalkFault, walk_image};
 use rs01_layers::Extent;
 use rs01_outside::Desk;
-use rs01_sums::{crc32, is_marker};
 use std::alloc::{AllocError, Global};
 
+// How many sectors are gathered before their checksums and digest are taken: enough that a thread for them pays, and few
+// enough that they are still in the processor's cache.
+const BATCH: usize = 256;
+
 // Looks at the sectors of an image.
-#[derive(Clone, Copy)]
-pub struct Surveyor {
+#[derive(Drop)]
+pub struct Surveyor<'a, G: Digesting> {
     pub extent: Extent,
+    pub digesting: &'a G,
 }
 
-// Puts the checksum of a block behind those that are there.
-fn add_sum(block: &[u8; 2048], sums: &mut Vec<u8>) -> Result<(), AllocError>
-    ensures { OnOk result (sums.new.items ≡ sums.old.items ++ to_le_bytes w32 (crc block.now)) }
+// Puts a block behind others.
+fn gather(block: &[u8; 2048], blocks: &mut Vec<u8>) -> Result<(), AllocError>
+    ensures { OnOk result (blocks.new.items ≡ blocks.old.items ++ block.now) }
 {
-    sums.extend_from_slice(&crc32(block).to_le_bytes())?;
+    blocks.extend_from_slice(block)?;
     Ok(())
 }
 
-// The fingerprint once the block of a sector was seen.
-fn fingerprint_after(
-    mark_sector: u32,
-    sector: u32,
-    block: &[u8; 2048],
-    before: [u8; 16],
-) -> [u8; 16]
-    ensures { result ≡ (if sector == mark_sector then md5 block.now else before) }
+// Takes checksums and digest of what was gathered, up to below the sector `past`.
+fn take_gathered<G: Digesting>(
+    extent: &Extent,
+    digesting: &G,
+    past: u32,
+    kept: &mut Gathered,
+) -> Result<(), AllocError>
+    requires gathers { Gathers past kept.old }
+    requires inside { past ≤ extent.now.sectors }
+    ensures none { OnOk result ((kept.new.first ≡ past) × (kept.new.blocks.items ≡ [])) }
+    ensures sees { OnOk result (SeesAll extent.now past kept.old kept.new) }
 {
-    if sector == mark_sector {
-        Md5::digest(block)
-    } else {
-        before
-    }
+    digesting.digest(extent, kept.first, past, &kept.blocks, &mut kept.seen)?;
+    kept.first = past;
+    kept.blocks.clear();
+    Ok(())
 }
 
-// The first marked sector once the block of one more sector was seen.
-fn marked_after(sector: u32, block: &[u8; 2048], before: Option<u32>) -> Option<u32>
-    ensures { result ≡ option_or before
-        (if bytes_eq block.now (marker sector) then Some sector else None) }
-{
-    match before {
-        Some(first) => Some(first),
-        None if is_marker(sector, block) => Some(sector),
-        None => None,
-    }
-}
+impl<'a, G: Digesting> Visitor for Surveyor<'a, G> {
+    ghost use Rattle.rs01_create.specs.Surveyed.{Fits, GatheredShown};
 
-impl Visitor for Surveyor {
-    ghost use Rattle.rs01_create.specs.Surveyed.{SurveyedShown};
-
-    type Kept = Seen;
+    type Kept = Gathered;
 
     ghost count = { λ v. v.extent.sectors };
 
-    ghost keeps = { λ v image n seen. SurveyedShown v.extent image n seen };
+    ghost keeps = { λ v image n kept. GatheredShown v.extent image n kept };
 
-    ghost fits = { λ v n seen. Unit {0} };
+    ghost fits = { λ v n kept. Fits v.extent n kept };
 
     fn sector(
         &self,
         sector: u32,
         _there: bool,
-        len: u32,
+        _len: u32,
         block: &[u8; 2048],
-        kept: &mut Seen,
+        kept: &mut Gathered,
     ) -> Result<(), AllocError> {
-        add_sum(block, &mut kept.sums)?;
-        kept.hasher.update(&block[..len as usize]);
-        let mark_sector = (self.extent.sectors - 1).min(16);
-        let before = kept.fingerprint;
-        let fingerprint = fingerprint_after(mark_sector, sector, block, before);
-        kept.fingerprint = fingerprint;
-        kept.marked = marked_after(sector, block, kept.marked);
+        let sectors = self.extent.sectors;
+        let past = sector + 1;
+        gather(block, &mut kept.blocks)?;
+        if kept.blocks.len() == 2048 * BATCH || past == sectors {
+            take_gathered(&self.extent, self.digesting, past, kept)?;
+        }
         Ok(())
     }
 }
 
 // Looks at all sectors of an image file of `size` bytes. No file changes.
-pub fn survey_image<D: Desk>(
+pub fn survey_image<D: Desk, G: Digesting>(
     alloc: Global,
     desk: &mut D,
     name: &str,
     size: u64,
-    surveyor: &Surveyor,
+    extent: Extent,
+    digesting: &G,
 ) -> Result<Seen, WalkFault>
     ensures reads { OnlyReads (D.state desk.old) (D.state desk.new) (is_walk_fault result) }
     ensures seen { InFile (D.state desk.old) name.now (λ file.
-        IfOk result (SurveyedBy surveyor.now.extent size file)) }
+        IfOk result (SurveyedBy extent size file)) }
 {
     let fingerprint = [0; 16];
-    let mut seen = Seen {
-        sums: Vec::with_capacity(alloc, 4 * surveyor.extent.sectors as usize)?,
-        hasher: Md5::new(),
-        fingerprint,
-        marked: None,
+    let sectors = extent.sectors as usize;
+    let mut kept = Gathered {
+        seen: Seen {
+            noted: Noted {
+                sums: Vec::with_capacity(alloc, 4 * sectors)?,
+                fingerprint,
+                marked: None,
+            },
+            hasher: Md5::new(),
+        },
+        first: 0,
+        blocks: Vec::with_capacity(alloc, 2048 * BATCH.min(sectors))?,
     };
-    walk_image(
-        alloc,
-        desk,
-        name,
-        size,
-        &surveyor.extent,
-        surveyor,
-        &mut seen,
-    )?;
-    Ok(seen)
+    let surveyor = Surveyor { extent, digesting };
+    walk_image(alloc, desk, name, size, &extent, &surveyor, &mut kept)?;
+    Ok(kept.seen)
 }

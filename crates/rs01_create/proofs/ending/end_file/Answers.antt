@@ -1,5 +1,4 @@
-use Rattle.std.proofs.Common.{◌≡◌, ◌∙◌, ◌++◌, ℕ, List, ap, subst, arith, length}
-use Rattle.md5.specs.Md5.{md5}
+use Rattle.std.proofs.Common.{◌≡◌, ◌∙◌, ◌++◌, ℕ, List, ap, subst, arith}
 use Rattle.rs01_outside.specs.Files.{Becomes, Files}
 use Rattle.rs01_ecchead.specs.EccFile.{body, ecc_file, head_fields}
 use Rattle.rs01_ecchead.specs.Header.{head_bytes}

@@ -1,5 +1,4 @@
 use Rattle.std.proofs.Common.{◌≡◌, ◌∙◌, ◌-◌, ap, arith, min}
-use Rattle.md5.specs.Md5.{md5}
 use Rattle.rs01_ecchead.specs.EccFile.{head_fields, mark_sector_of}
 use Rattle.rs01_create.proofs.ending.head_of.Goals as goal
 

@@ -1,5 +1,5 @@
 use Rattle.std.proofs.Common.{◌≡◌, ◌+◌, ◌-◌, ◌*◌, ◌∙◌, ◌++◌, ap, sym, take, drop, arith}
-use Rattle.rs01_create.proofs.Pieces.{in_run_ended, in_run_there}
+use Rattle.rs01_create.proofs.Pieces.{in_run_there}
 use Rattle.rs01_create.proofs.window.push_from_run.Goals as goal
 
 pub returns-in_ok-extend_from_slice : goal.returns-in_ok-extend_from_slice

@@ -1,7 +1,6 @@
-use Rattle.std.proofs.Common.{◌≡◌, ◌+◌, ◌*◌, ◌/◌, ◌∙◌, ◌++◌, List, [], ℕ, length, take, drop, ap, subst, sym, refl, arith, min, ◌≤◌}
+use Rattle.std.proofs.Common.{◌≡◌, ◌+◌, ◌*◌, ◌/◌, ◌∙◌, ◌++◌, List, ℕ, length, take, drop, ap, sym, arith, min, ◌≤◌}
 use Rattle.std.proofs.Math.Seq.{take-append_seam}
-use Rattle.std.proofs.lemmas.List.{length-take, length-drop}
-use Rattle.rs01_layers.specs.Layout.{layers_of}
+use Rattle.std.proofs.lemmas.List.{length-take}
 use Rattle.rs01_outside.specs.Files.{bytes_of}
 use Rattle.rs01_ecchead.specs.Runs.{IsRun}
 use Rattle.rs01_create.specs.Windows.{in_run}
