@@ -1,18 +1,18 @@
 -- A whole reading keeps its bounds.
-use Rattle.std.proofs.Common.{inl, inr, ◌≡◌, ℕ, zero, suc, ◌<◌, ⊎_elim, refl, sym, ap, subst, ◌∙◌}
-use Rattle.std.specs.Prelude.{◌⊎◌, IsSome, None, Option, Some, false, not, true}
+use Rattle.std.proofs.Common.{inl, inr, ◌≡◌, ℕ, zero, suc, ◌<◌, ⊎_elim, refl, sym, ap, ◌∙◌}
+use Rattle.std.specs.Prelude.{◌⊎◌, IsSome, None, false, not, true}
 use Rattle.std.specs.Fn.{iterate}
 use Rattle.std.proofs.lemmas.Bool.{cases_Bool, false≢true}
-use Rattle.rs01_turns.specs.Layers.{IsSparing, lies_within}
+use Rattle.rs01_turns.specs.Layers.{lies_within}
 use Rattle.rs01_turns.specs.Turns.{Reading, Terms, next_of, rest, step}
-use Rattle.rs01_turns.proofs.Layering.{ask-is-sparing, beyond-are-asked, settled-are-left, start-is-sparing, unasked-lie-within}
+use Rattle.rs01_turns.proofs.Layering.{beyond-are-asked, settled-are-left, start-is-sparing, steps-sparing, unasked-lie-within}
 use Rattle.rs01_turns.proofs.Times.{asks-few}
 use Rattle.rs01_turns.proofs.Turning.{cases-next, none-still, rest-next, some-steps}
 use Rattle.rs01_adaptive.specs.Bounds.{BoundsAreKept}
 use Rattle.rs01_adaptive.specs.Whole.{Whole, asking_in, end_in, good_flags, is_lacking, known_in, start_in, terms_in}
 use Rattle.rs01_adaptive.proofs.BlockLemmas.{start_flag}
 
--- steps keep the rest, and spare exactly what needn't be read
+-- steps keep the rest
 
 step-rest : (terms : Terms) (now : Reading) → rest terms (step terms now) ≡ rest terms now
 step-rest terms now = ⊎_elim
@@ -23,16 +23,6 @@ step-rest terms now = ⊎_elim
 steps-rest : (terms : Terms) (n : ℕ) (now : Reading) → rest terms (iterate (step terms) n now) ≡ rest terms now
 steps-rest terms zero now = refl
 steps-rest terms (suc n) now = steps-rest terms n (step terms now) ∙ step-rest terms now
-
-step-sparing : (terms : Terms) (now : Reading) → IsSparing terms.shape now.states → IsSparing terms.shape (step terms now).states
-step-sparing terms now sparing = ⊎_elim
-    (λ h. subst (λ (r : Reading). IsSparing terms.shape r.states) (sym (none-still terms now h)) sparing)
-    (λ h. subst (λ (r : Reading). IsSparing terms.shape r.states) (sym (some-steps terms now h.0 h.1)) (ask-is-sparing terms now h.0 h.1 sparing))
-    (cases-next (next_of now))
-
-steps-sparing : (terms : Terms) (n : ℕ) (now : Reading) → IsSparing terms.shape now.states → IsSparing terms.shape (iterate (step terms) n now).states
-steps-sparing terms zero now sparing = sparing
-steps-sparing terms (suc n) now sparing = steps-sparing terms n (step terms now) (step-sparing terms now sparing)
 
 unasked-within : (w : Whole) (s : ℕ) → s < (known_in w).sectors → is_lacking w s ≡ true → asking_in w s ≡ None → lies_within w.shape (end_in w).states s ≡ true
 unfolding asking_in end_in

@@ -13,7 +13,6 @@ use Rattle.rs01_ecchead.specs.declared.opened.EccRefusal.{EccRefusal}
 use Rattle.rs01_linear.specs.Medium.{Finds, Found, found, found_in_file}
 use Rattle.rs01_linear.specs.Outcome.{asked_since}
 use Rattle.rs01_linear.specs.declared.prepared.Prepared.{Prepared}
-use Rattle.rs01_linear.specs.declared.refusal.ReadRefusal.{ReadRefusal}
 use Rattle.rs01_reader.specs.declared.setup.Setup.{Setup}
 use Rattle.rs01_adaptive.specs.ComesBack.{BringsBack, ComesBack, found_by}
 use Rattle.rs01_adaptive.specs.Outcome.{IsReadInto, OfWhole, TellsReading, whole}

@@ -1,6 +1,6 @@
 -- What reading by turns gives back where the error correction file is intact.
-use Rattle.std.proofs.Common.{inl, inr, ◌≡◌, ℕ, zero, suc, ◌+◌, ◌-◌, ◌*◌, ◌%◌, ◌<◌, ◌≤◌, ⊎_elim, List, [], ◌++◌, length, take, drop, get_or, map, refl, sym, ap, subst, ◌∙◌, arith, Bool, true, false, cond, mod-lt}
-use Rattle.std.specs.Prelude.{◌⊎◌, ◌&&◌, ◌==◌, All, is_none, is_some, not, count_by, filter, Option, Some, None, IsSomeAnd}
+use Rattle.std.proofs.Common.{◌≡◌, ℕ, zero, suc, ◌+◌, ◌-◌, ◌*◌, ◌%◌, ◌<◌, ◌≤◌, ⊎_elim, List, [], ◌++◌, length, take, drop, get_or, refl, sym, ap, subst, ◌∙◌, arith, Bool, true, false, cond, mod-lt}
+use Rattle.std.specs.Prelude.{◌&&◌, ◌==◌, All, is_none, is_some, not, count_by, filter, Option, Some, None}
 use Rattle.std.specs.List.{flat_map, range_with_len}
 use Rattle.std.specs.Option.{option_and_then, option_map_or}
 use Rattle.std.proofs.lemmas.Bool.{cases_Bool, cases_lt, false≢true}
@@ -9,7 +9,7 @@ use Rattle.std.proofs.lemmas.List.FromFn.{length-range_with_len}
 use Rattle.std.proofs.lemmas.List.Sums.{length-filter}
 use Rattle.std.proofs.lemmas.Grind.{same_number_lists}
 use Rattle.rs01_lists.specs.Bytes.{part}
-use Rattle.rs01_layers.specs.Sectors.{last_of, length_of, sector}
+use Rattle.rs01_layers.specs.Sectors.{last_of, sector}
 use Rattle.rs01_layers.specs.Layer.{layer}
 use Rattle.rs01_layers.specs.Layout.{layer_of, layers_of, number_at, place_of}
 use Rattle.rs01_layers.specs.declared.shape.Shape.{Shape}
@@ -30,7 +30,7 @@ use Rattle.rs01_repair.proofs.CorrectLemmas.{placed_has}
 use Rattle.rs01_repair.proofs.Counts.{same_kept}
 use Rattle.rs01_repair.proofs.InputLemmas.{flag_of_sector}
 use Rattle.rs01_repair.proofs.Intact.{C, N, is_of_image, protects_says, shape_of, within_answer}
-use Rattle.rs01_states.specs.Sparing.{found, is_open, is_within, lacks, open_count, settled, state_of, within_bound}
+use Rattle.rs01_states.specs.Sparing.{is_open, is_within, lacks, open_count, state_of, within_bound}
 use Rattle.rs01_states.specs.declared.state.State.{State}
 use Rattle.rs01_states.proofs.StateLemmas.{is-beyond}
 use Rattle.rs01_linear.specs.Medium.{Found}
@@ -39,8 +39,8 @@ use Rattle.rs01_turns.specs.Layers.{lies_within}
 use Rattle.rs01_turns.proofs.Times.{ends-all}
 use Rattle.rs01_fix.specs.ComesBack.{IsSectorOf}
 use Rattle.rs01_fix.specs.Repair.{strange_in}
-use Rattle.rs01_adaptive.specs.ComesBack.{BeginsSound, ComesBack, GivesOriginal, SettledComeBack, found_by, is_settled}
-use Rattle.rs01_adaptive.specs.Whole.{IsShapeOf, Whole, asking_in, block_by, block_left, end_in, good_block, good_flags, image_left, is_lacking, is_lost_in, is_open_in, is_restored_in, known_in, report_of, restored_block, sector_left, start_in, strange_by, strange_layers, terms_in, value_by, value_in}
+use Rattle.rs01_adaptive.specs.ComesBack.{BeginsSound, ComesBack, GivesOriginal, SettledComeBack, is_settled}
+use Rattle.rs01_adaptive.specs.Whole.{IsShapeOf, Whole, asking_in, block_by, block_left, end_in, good_block, good_flags, image_left, is_lacking, is_lost_in, is_open_in, is_restored_in, known_in, report_of, restored_block, start_in, strange_by, strange_layers, terms_in, value_by, value_in}
 use Rattle.rs01_adaptive.proofs.BlockLemmas.{good_was_read, kept_good, read_good}
 use Rattle.rs01_adaptive.proofs.Finishing.{left-part}
 use Rattle.rs01_adaptive.proofs.GoingLemmas.{closed_left}

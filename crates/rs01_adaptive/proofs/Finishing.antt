@@ -110,21 +110,22 @@ among-none false flag block same = refl
 kept-same : (f g : ℕ → Bool) (n : ℕ) → ((j : ℕ) → j < n → f j ≡ g j) → filter f (range_with_len 0 n) ≡ filter g (range_with_len 0 n)
 kept-same f g n same = same_kept f g 0 n (λ j low. let e : 0 + j ≡ j = omega arith in ap f e ∙ same j low ∙ ap g (sym e))
 
+-- sectors that are told, by a test of each
+among-end : (w : Whole) (s : Sight) (restored : Bool) (test : ℕ → Bool) → ((k : ℕ) → k < (known_in w).sectors → is_among (fates_in w) s.noted.restored.items restored k ≡ test k)
+    → sectors_among (fates_in w) s.noted.restored.items restored ≡ filter test (range_with_len 0 (known_in w).sectors)
+among-end w s restored test same =
+    ap (λ n. filter (is_among (fates_in w) s.noted.restored.items restored) (range_with_len 0 n)) (length-map-range_with_len (fate_in w) 0 (known_in w).sectors)
+    ∙ kept-same (is_among (fates_in w) s.noted.restored.items restored) test (known_in w).sectors same
+
 restored-end : (w : Whole) (asks : ℕ) (s : Sight) → Stands w asks s → IsFinished s → HasFile w
     → sectors_among (fates_in w) s.noted.restored.items true ≡ filter (is_restored_in w) (range_with_len 0 (known_in w).sectors)
-restored-end w asks s st fin file =
-    let long = length-map-range_with_len (fate_in w) 0 (known_in w).sectors in
-    ap (λ n. filter (is_among (fates_in w) s.noted.restored.items true) (range_with_len 0 n)) long
-    ∙ kept-same (is_among (fates_in w) s.noted.restored.items true) (is_restored_in w) (known_in w).sectors (λ k below.
+restored-end w asks s st fin file = among-end w s true (is_restored_in w) (λ k below.
     ap (λ (b : Bool). b && flag_of s.noted.restored.items k) (lost-here w k below)
     ∙ among-some (is_open_in w k) (flag_of s.noted.restored.items k) (restored_block w k) (λ lacks. block_flag w asks s k st fin file below lacks))
 
 lost-end : (w : Whole) (asks : ℕ) (s : Sight) → Stands w asks s → IsFinished s → HasFile w
     → sectors_among (fates_in w) s.noted.restored.items false ≡ filter (is_lost_in w) (range_with_len 0 (known_in w).sectors)
-lost-end w asks s st fin file =
-    let long = length-map-range_with_len (fate_in w) 0 (known_in w).sectors in
-    ap (λ n. filter (is_among (fates_in w) s.noted.restored.items false) (range_with_len 0 n)) long
-    ∙ kept-same (is_among (fates_in w) s.noted.restored.items false) (is_lost_in w) (known_in w).sectors (λ k below.
+lost-end w asks s st fin file = among-end w s false (is_lost_in w) (λ k below.
     ap (λ (b : Bool). b && not (flag_of s.noted.restored.items k)) (lost-here w k below)
     ∙ among-none (is_open_in w k) (flag_of s.noted.restored.items k) (restored_block w k) (λ lacks. block_flag w asks s k st fin file below lacks))
 

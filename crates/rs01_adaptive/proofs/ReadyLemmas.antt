@@ -1,10 +1,11 @@
 -- Reading into an image file that is ready, by how the reading of its windows ended.
 use Rattle.std.proofs.Common.{◌≡◌, ℕ, ◌-◌, ◌^◌, ◌<◌, List, length, true, false, refl, sym, ap, subst, ◌∙◌, arith, min}
-use Rattle.std.specs.Prelude.{Bool, IfErr, IsTrue, OnOk, Option, Result, Ok, Err}
+use Rattle.std.specs.Prelude.{Bool, IfErr, IsTrue, OnOk, Option, Result, Ok, Err, not}
 use Rattle.std.specs.Option.{option_map}
 use Rattle.std.proofs.lemmas.List.{length-take-le}
 use Rattle.rs01_layers.specs.declared.shape.Shape.{Shape}
-use Rattle.rs01_outside.specs.DeskState.{DeskState}
+use Rattle.rs01_outside.specs.Causes.{Rose}
+use Rattle.rs01_outside.specs.DeskState.{DeskState, WorksOn}
 use Rattle.rs01_rack.specs.Rack.{RackState, views_of}
 use Rattle.rs01_report.specs.declared.reports.ReadReport.{ReadReport}
 use Rattle.rs01_ecchead.specs.Erased.{image_len}
@@ -60,48 +61,30 @@ begins setup shape prepared desk can fresh shape_is = record { all = fresh.all; 
 
 -- counts of faults
 
+-- what a reading under way shares with every end of it
+counts_by : (f g : Sight) (read_failed write_failed : Bool) → Along f g → (IsTrue read_failed → Rose f.moment.desk.read_faults g.moment.desk.read_faults)
+    → (IsTrue (not read_failed) → g.moment.desk.read_faults ≡ f.moment.desk.read_faults) → (IsTrue write_failed → Rose f.moment.desk.write_faults g.moment.desk.write_faults)
+    → (IsTrue (not write_failed) → g.moment.desk.write_faults ≡ f.moment.desk.write_faults) → WorksOn f.moment.setting.image f.moment.desk g.moment.desk read_failed write_failed
+counts_by f g read_failed write_failed along read_rose read_kept write_rose write_kept = record {
+  tells = along.desk.tells;
+  elsewhere = λ t. (along.desk.files t).elsewhere;
+  reads_later = along.desk.reads_rise;
+  writes_later = along.desk.writes_rise;
+  read_rose = read_rose;
+  read_kept = read_kept;
+  write_rose = write_rose;
+  write_kept = write_kept;
+}
+
 -- however it stopped, the count of the fault's kind alone rose
 works_by : (f g : Sight) (why : Stop) → IsQuiet f.moment → Along f g → StoppedBy g.moment why
     → WorksBy {T = ReadReport} f.moment.setting.image f.moment.desk g.moment.desk (Err (refusal_by why)) × IsOfWork (refusal_by why)
-works_by f g stop.ReadFault quiet along by = (
-  record {
-    tells = along.desk.tells;
-    elsewhere = λ t. (along.desk.files t).elsewhere;
-    reads_later = along.desk.reads_rise;
-    writes_later = along.desk.writes_rise;
-    read_rose = λ h. omega (arith, by.0, quiet.reads, along.kept_reads);
-    read_kept = λ h. cc;
-    write_rose = λ h. cc;
-    write_kept = λ h. by.1 ∙ along.kept_writes ∙ sym quiet.writes;
-  },
-  tt,
-)
-works_by f g stop.WriteFault quiet along by = (
-  record {
-    tells = along.desk.tells;
-    elsewhere = λ t. (along.desk.files t).elsewhere;
-    reads_later = along.desk.reads_rise;
-    writes_later = along.desk.writes_rise;
-    read_rose = λ h. cc;
-    read_kept = λ h. by.0 ∙ along.kept_reads ∙ sym quiet.reads;
-    write_rose = λ h. omega (arith, by.1, quiet.writes, along.kept_writes);
-    write_kept = λ h. cc;
-  },
-  tt,
-)
-works_by f g stop.OutOfMemory quiet along by = (
-  record {
-    tells = along.desk.tells;
-    elsewhere = λ t. (along.desk.files t).elsewhere;
-    reads_later = along.desk.reads_rise;
-    writes_later = along.desk.writes_rise;
-    read_rose = λ h. cc;
-    read_kept = λ h. by.reads ∙ along.kept_reads ∙ sym quiet.reads;
-    write_rose = λ h. cc;
-    write_kept = λ h. by.writes ∙ along.kept_writes ∙ sym quiet.writes;
-  },
-  tt,
-)
+works_by f g stop.ReadFault quiet along by =
+    (counts_by f g true false along (λ h. omega (arith, by.0, quiet.reads, along.kept_reads)) (λ h. cc) (λ h. cc) (λ h. by.1 ∙ along.kept_writes ∙ sym quiet.writes), tt)
+works_by f g stop.WriteFault quiet along by =
+    (counts_by f g false true along (λ h. cc) (λ h. by.0 ∙ along.kept_reads ∙ sym quiet.reads) (λ h. omega (arith, by.1, quiet.writes, along.kept_writes)) (λ h. cc), tt)
+works_by f g stop.OutOfMemory quiet along by =
+    (counts_by f g false false along (λ h. cc) (λ h. by.reads ∙ along.kept_reads ∙ sym quiet.reads) (λ h. cc) (λ h. by.writes ∙ along.kept_writes ∙ sym quiet.writes), tt)
 
 stop_of : (m : Moment) (stopped : WindowStop Stop) → StopsBy m stopped → StoppedBy m (stop_or stopped stop.OutOfMemory)
 stop_of m (window_stop.Stopped why) by = by
@@ -117,16 +100,9 @@ works_stopped f g (Err stopped) why quiet along by ends =
 -- no fault came
 works_quietly : (f g : Sight) (result : Result ReadReport ReadRefusal) → is_read_fault result ≡ false → is_write_fault result ≡ false
     → IsQuiet f.moment → Along f g → IsQuiet g.moment → WorksBy f.moment.setting.image f.moment.desk g.moment.desk result
-works_quietly f g result no_read no_write quiet along still = record {
-  tells = along.desk.tells;
-  elsewhere = λ t. (along.desk.files t).elsewhere;
-  reads_later = along.desk.reads_rise;
-  writes_later = along.desk.writes_rise;
-  read_rose = λ h. absurd (never (is_read_fault result) no_read h);
-  read_kept = λ h. still.reads ∙ along.kept_reads ∙ sym quiet.reads;
-  write_rose = λ h. absurd (never (is_write_fault result) no_write h);
-  write_kept = λ h. still.writes ∙ along.kept_writes ∙ sym quiet.writes;
-}
+works_quietly f g result no_read no_write quiet along still =
+    counts_by f g (is_read_fault result) (is_write_fault result) along (λ h. absurd (never (is_read_fault result) no_read h)) (λ h. still.reads ∙ along.kept_reads ∙ sym quiet.reads)
+    (λ h. absurd (never (is_write_fault result) no_write h)) (λ h. still.writes ∙ along.kept_writes ∙ sym quiet.writes)
   where
     never : (b : Bool) → b ≡ false → IsTrue b → ⊥
     never true e h = cc

@@ -31,6 +31,7 @@ use Rattle.rs01_reader.specs.Courses.{CourseSeen}
 use Rattle.rs01_reader.specs.declared.setup.Setup.{Setup}
 use Rattle.rs01_adaptive.specs.Noting.{HasLayers, Notes}
 use Rattle.rs01_adaptive.specs.Putting.{HasPut, IsPutting, bytes_by, bytes_in, new_block, width_of}
+use Rattle.rs01_turns.specs.Moments.{bytes_at, length_at}
 use Rattle.rs01_adaptive.specs.Sights.{IsAnswered, IsFileOf, IsGuarded, IsSound, IsUnanswered, Sight, Stands, block_so_far, settled_layers, sight_of}
 use Rattle.rs01_adaptive.specs.Whole.{Whole, block_left, is_open_in, known_in, restored_block, sector_left, value_in}
 use Rattle.rs01_adaptive.specs.declared.noting.Noted.{Noted}
@@ -193,6 +194,51 @@ elsewhere_is : (w : Whole) (asks : ℕ) (setup : Setup) (course : CourseSeen) (r
 elsewhere_is w asks setup course rack desk desk' noted noted' window window' failed sound tells changes stands =
     file_same w.medium.opened setup.medium.now.ecc (option_map (λ name. name.now) setup.ecc) setup.image.now desk.files desk'.files sound.set_up.named (changes.elsewhere tells) stands.file_is
 
+-- putting all blocks is putting some
+pub all_is_some : (known : Known) (block : ℕ → Option (List ℕ)) (old file : List ℕ) → HasPut known block old file → IsPutting known block old file
+all_is_some known block old file put = record {
+  len = put.len;
+  sectors = λ s below. whole_blend _ _ _ (put.sectors s below);
+  surplus = put.surplus;
+}
+
+-- what is still to be shown once sectors of a layer were put in place, or some of them
+abbrev HaveTheirBlocks : Whole → Sight → Type 0
+HaveTheirBlocks w s = (Rose s.moment.kept_writes s.moment.desk.write_faults → ⊥) → (k : ℕ) → k < (known_in w).sectors → bytes_at s.moment k ≡ take (length_at s.moment k) (block_so_far w s k)
+
+abbrev AreToldOf : Whole → Sight → Type 0
+AreToldOf w s = (j : ℕ) → j < layer_count w.shape → IsAnswered w s j ⊎ IsUnanswered s j
+
+stands_on : (w : Whole) (asks : ℕ) (setup : Setup) (course : CourseSeen) (rack : RackState) (desk desk' : DeskState) (noted noted' : Noted) (window window' : ℕ) (failed : Bool) (ecc : Ecc) (l : ℕ) (answer : LayerOut)
+    → IsStep setup course ecc l answer → IsSound (sight_of setup course rack desk noted window) → IsTrue desk.tells → OnlyChanges setup.image.now desk desk' failed
+    → IsPutting (known_of setup.medium.now) (new_block ecc l answer) (bytes_of desk.files setup.image.now) (bytes_of desk'.files setup.image.now)
+    → HaveTheirBlocks w (sight_of setup course rack desk' noted' window') → AreToldOf w (sight_of setup course rack desk' noted' window')
+    → value_in w l ≡ Some answer → Stands w asks (sight_of setup course rack desk noted window) → Stands w asks (sight_of setup course rack desk' noted' window')
+stands_on w asks setup course rack desk desk' noted noted' window window' failed ecc l answer step sound tells changes put blocks layers value stands =
+    let s = sight_of setup course rack desk noted window in
+    let known : Known = known_of setup.medium.now in
+    let same : known ≡ known_in w = ap (λ (x : Terms). x.known) stands.terms_are in
+    let inside : (k : ℕ) → k < (known_in w).sectors → k < ecc.head.sectors =
+    λ k below. subst (λ (n : ℕ). k < n) (sym (ap (λ (n : Known). n.sectors) (known_same setup.medium.now ecc step.opened ∙ same))) below in
+    record {
+      terms_are = stands.terms_are;
+      file_is = elsewhere_is w asks setup course rack desk desk' noted noted' window window' failed sound tells changes stands;
+      end_is = stands.end_is;
+      asks_are = stands.asks_are;
+      asking = stands.asking;
+      last = stands.last;
+      lacking = stands.lacking;
+      fates = stands.fates;
+      blocks = blocks;
+      mixed = λ k below.
+          mixed_by known k (new_block ecc l answer k) (bytes_in known (bytes_of desk.files setup.image.now) k) _ (sector_left w k) (bytes_in known (bytes_of desk'.files setup.image.now) k)
+          (left_where w asks s ecc l answer known k stands step.opened value same step.final step.blocks (inside k below)) (stands.mixed k below)
+          (put.sectors k (subst (λ (n : Known). k < n.sectors) (sym same) below));
+      layers = layers;
+      longer = omega (arith, put.len, stands.longer);
+      surplus = ap (λ (n : Known). drop (image_len n) (bytes_of desk'.files setup.image.now)) (sym same) ∙ put.surplus ∙ ap (λ (n : Known). drop (image_len n) (bytes_of desk.files setup.image.now)) same ∙ stands.surplus;
+    }
+
 pub stands_put : (w : Whole) (asks : ℕ) (setup : Setup) (course : CourseSeen) (rack : RackState) (desk desk' : DeskState) (noted noted' : Noted) (window window' : ℕ) (ecc : Ecc) (l : ℕ) (answer : LayerOut)
     → IsStep setup course ecc l answer → IsSound (sight_of setup course rack desk noted window) → IsTrue desk.tells → OnlyChanges setup.image.now desk desk' false
     → HasPut (known_of setup.medium.now) (new_block ecc l answer) (bytes_of desk.files setup.image.now) (bytes_of desk'.files setup.image.now) → Notes ecc l answer noted noted'
@@ -203,31 +249,16 @@ stands_put w asks setup course rack desk desk' noted noted' window window' ecc l
     let t = sight_of setup course rack desk' noted' window' in
     let known : Known = known_of setup.medium.now in
     let same : known ≡ known_in w = ap (λ (x : Terms). x.known) stands.terms_are in
-    let inside : (k : ℕ) → k < (known_in w).sectors → k < ecc.head.sectors =
-    λ k below. subst (λ (n : ℕ). k < n) (sym (ap (λ (n : Known). n.sectors) (known_same setup.medium.now ecc step.opened ∙ same))) below in
-    let within : (k : ℕ) → k < (known_in w).sectors → k < known.sectors = λ k below. subst (λ (n : Known). k < n.sectors) (sym same) below in
     let has : HasLayers (layers_of ecc.head.sectors ecc.head.parity) noted = subst (λ (n : ℕ). HasLayers n noted) step.count sound.layers in
     let lower : l < layer_count w.shape = subst (λ (n : ℕ). l < n) (sym step.count ∙ ap (λ (x : Terms). layer_count x.shape) stands.terms_are) step.layer in
-    record {
-      terms_are = stands.terms_are;
-      file_is = elsewhere_is w asks setup course rack desk desk' noted noted' window window' false sound tells changes stands;
-      end_is = stands.end_is;
-      asks_are = stands.asks_are;
-      asking = stands.asking;
-      last = stands.last;
-      lacking = stands.lacking;
-      fates = stands.fates;
-      blocks = λ none k below.
-          block_put w asks s t ecc l answer known k (bytes_in known (bytes_of desk.files setup.image.now) k) (bytes_in known (bytes_of desk'.files setup.image.now) k) stands step.opened value step.layer lower has notes refl step.final step.blocks
-          (inside k below) (put.sectors k (within k below)) (stands.blocks (λ rose. none (subst (λ (n : ℕ). Rose course.kept_writes n) (sym (changes.kept refl)) rose)) k below);
-      mixed = λ k below.
-          mixed_by known k (new_block ecc l answer k) (bytes_in known (bytes_of desk.files setup.image.now) k) _ (sector_left w k) (bytes_in known (bytes_of desk'.files setup.image.now) k)
-          (left_where w asks s ecc l answer known k stands step.opened value same step.final step.blocks (inside k below)) (stands.mixed k below)
-          (whole_blend _ _ _ (put.sectors k (within k below)));
-      layers = λ j low. layer_put w s t ecc l j answer _ (opened_at w asks s ecc stands step.opened) value step.layer has notes more (stands.layers j low);
-      longer = omega (arith, put.len, stands.longer);
-      surplus = ap (λ (n : Known). drop (image_len n) (bytes_of desk'.files setup.image.now)) (sym same) ∙ put.surplus ∙ ap (λ (n : Known). drop (image_len n) (bytes_of desk.files setup.image.now)) same ∙ stands.surplus;
-    }
+    stands_on w asks setup course rack desk desk' noted noted' window window' false ecc l answer step sound tells changes
+    (all_is_some known (new_block ecc l answer) (bytes_of desk.files setup.image.now) (bytes_of desk'.files setup.image.now) put)
+    (λ none k below.
+    let within : k < known.sectors = subst (λ (n : Known). k < n.sectors) (sym same) below in
+    let inside : k < ecc.head.sectors = subst (λ (n : ℕ). k < n) (sym (ap (λ (n : Known). n.sectors) (known_same setup.medium.now ecc step.opened))) within in
+    block_put w asks s t ecc l answer known k (bytes_in known (bytes_of desk.files setup.image.now) k) (bytes_in known (bytes_of desk'.files setup.image.now) k) stands step.opened value step.layer lower has notes refl step.final step.blocks
+    inside (put.sectors k within) (stands.blocks (λ rose. none (subst (λ (n : ℕ). Rose course.kept_writes n) (sym (changes.kept refl)) rose)) k below))
+    (λ j low. layer_put w s t ecc l j answer _ (opened_at w asks s ecc stands step.opened) value step.layer has notes more (stands.layers j low)) value stands
 
 -- fewer layers count as settled
 fewer_settled : (xs : List ℕ) (m n l : ℕ) → m ≤ n → Contains (take m xs) l → Contains (take n xs) l
@@ -259,29 +290,9 @@ pub stands_failed : (w : Whole) (asks : ℕ) (setup : Setup) (course : CourseSee
 stands_failed w asks setup course rack desk desk' noted noted' window window' ecc l answer step sound tells changes put kept more value stands =
     let s = sight_of setup course rack desk noted window in
     let t = sight_of setup course rack desk' noted' window' in
-    let known : Known = known_of setup.medium.now in
-    let same : known ≡ known_in w = ap (λ (x : Terms). x.known) stands.terms_are in
-    let inside : (k : ℕ) → k < (known_in w).sectors → k < ecc.head.sectors =
-    λ k below. subst (λ (n : ℕ). k < n) (sym (ap (λ (n : Known). n.sectors) (known_same setup.medium.now ecc step.opened ∙ same))) below in
-    let within : (k : ℕ) → k < (known_in w).sectors → k < known.sectors = λ k below. subst (λ (n : Known). k < n.sectors) (sym same) below in
-    record {
-      terms_are = stands.terms_are;
-      file_is = elsewhere_is w asks setup course rack desk desk' noted noted' window window' true sound tells changes stands;
-      end_is = stands.end_is;
-      asks_are = stands.asks_are;
-      asking = stands.asking;
-      last = stands.last;
-      lacking = stands.lacking;
-      fates = stands.fates;
-      blocks = λ none k below. absurd (none (rose_before course.kept_writes desk.write_faults desk'.write_faults sound.writes_rise (changes.rose refl)));
-      mixed = λ k below.
-          mixed_by known k (new_block ecc l answer k) (bytes_in known (bytes_of desk.files setup.image.now) k) _ (sector_left w k) (bytes_in known (bytes_of desk'.files setup.image.now) k)
-          (left_where w asks s ecc l answer known k stands step.opened value same step.final step.blocks (inside k below)) (stands.mixed k below)
-          (put.sectors k (within k below));
-      layers = λ j low. layer_back w s t j kept refl more (stands.layers j low);
-      longer = omega (arith, put.len, stands.longer);
-      surplus = ap (λ (n : Known). drop (image_len n) (bytes_of desk'.files setup.image.now)) (sym same) ∙ put.surplus ∙ ap (λ (n : Known). drop (image_len n) (bytes_of desk.files setup.image.now)) same ∙ stands.surplus;
-    }
+    stands_on w asks setup course rack desk desk' noted noted' window window' true ecc l answer step sound tells changes put
+    (λ none k below. absurd (none (rose_before course.kept_writes desk.write_faults desk'.write_faults sound.writes_rise (changes.rose refl))))
+    (λ j low. layer_back w s t j kept refl more (stands.layers j low)) value stands
 
 -- what is good stays
 
@@ -317,11 +328,3 @@ guarded_put y setup course rack desk desk' noted noted' window window' ecc l ans
   where
     length-part : (xs : List ℕ) (p n : ℕ) → length (part xs p n) ≡ min n (length xs - p)
     length-part xs p n = length-take n (drop p xs) ∙ ap (min n) (length-drop p xs)
-
--- putting all blocks is putting some
-pub all_is_some : (known : Known) (block : ℕ → Option (List ℕ)) (old file : List ℕ) → HasPut known block old file → IsPutting known block old file
-all_is_some known block old file put = record {
-  len = put.len;
-  sectors = λ s below. whole_blend _ _ _ (put.sectors s below);
-  surplus = put.surplus;
-}

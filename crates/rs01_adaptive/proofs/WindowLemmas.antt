@@ -34,7 +34,8 @@ use Rattle.rs01_adaptive.specs.Noting.{HasLayers, Notes}
 use Rattle.rs01_adaptive.specs.Putting.{HasPut, HasWhole, IsPutting, new_block}
 use Rattle.rs01_adaptive.specs.AlongLaws.{along_same}
 use Rattle.rs01_adaptive.specs.Settling.{CanSettle, CanTake, IsWorked, SettlesOne}
-use Rattle.rs01_adaptive.specs.Sights.{Along, IsSound, Sight, settled_layers, sight_of, window_layers}
+use Rattle.rs01_adaptive.specs.Sights.{Along, IsSound, Sight, Stands, settled_layers, sight_of, window_layers}
+use Rattle.rs01_adaptive.specs.Whole.{Whole, value_in}
 use Rattle.rs01_adaptive.specs.declared.noting.Noted.{Noted}
 use Rattle.rs01_adaptive.proofs.AnswerLemmas.{count_is, value_of}
 use Rattle.rs01_adaptive.proofs.LeftLemmas.{whole_where}
@@ -134,6 +135,34 @@ record IsAt (setup : Setup) (course : CourseSeen) (rack : RackState) (first desk
   along : Along (sight_of setup course rack first noted begun) (sight_of setup course rack desk noted' window)
   inside : window ≤ begun
 
+-- sectors of its layer were put in place, or some of them, and what was noted fits
+along_on : (setup : Setup) (course : CourseSeen) (rack : RackState) (first desk desk' : DeskState) (noted was is : Noted) (begun window window' : ℕ) (failed : Bool) (ecc : Ecc) (input : LayerInput)
+    → IsAt setup course rack first desk noted was begun window ecc input → OnlyChanges setup.image.now desk desk' failed
+    → Puts setup desk desk' (new_block ecc input.layer (correct input)) → HasLayers (layer_count course.shape) is → window' ≤ begun
+    → ((w : Whole) (asks : ℕ) → IsTrue desk.tells → value_in w input.layer ≡ Some (correct input)
+    → Stands w asks (sight_of setup course rack desk was window) → Stands w asks (sight_of setup course rack desk' is window'))
+    → Along (sight_of setup course rack first noted begun) (sight_of setup course rack desk' is window')
+along_on setup course rack first desk desk' noted was is begun window window' failed ecc input at changes puts layers less stands_on =
+    let f = sight_of setup course rack first noted begun in
+    let block = new_block ecc input.layer (correct input) in
+    let step = step_is setup course rack first noted begun ecc input at.opened at.sound at.fits in
+    let sound = at.along.sound at.sound in
+    let told : IsTrue first.tells → IsTrue desk.tells = λ t. subst (λ (b : Bool). IsTrue b) (sym at.along.desk.tells) t in
+    record {
+      setting = refl;
+      kept_reads = refl;
+      kept_writes = refl;
+      drives = same-drives (moment setup course rack first) (moment setup course rack desk') refl refl;
+      asks = λ tell. record { more = 0; shown = omega arith; counted = omega arith };
+      desk = desk_put setup course rack first desk desk' failed block at.along.desk changes puts;
+      settled_rise = omega (arith, less);
+      sound = λ s. sound_put setup course rack desk desk' was is window window' failed block sound changes puts layers (omega (arith, less, at.sound.window_fits));
+      told = λ w asks t all stands.
+          stands_on w asks (told t) (value_of w asks f input setup.medium.now.sectors stands at.sound at.none_rose t at.fits) (at.along.told w asks t all stands);
+      stays = λ y t guarded.
+          guarded_put y setup course rack desk desk' was is window window' ecc input.layer (correct input) step sound (puts (told t)) (at.along.stays y t guarded);
+    }
+
 along_put : (setup : Setup) (course : CourseSeen) (rack : RackState) (first desk desk' : DeskState) (noted was is : Noted) (begun window window' : ℕ) (ecc : Ecc) (input : LayerInput)
     → IsAt setup course rack first desk noted was begun window ecc input → OnlyChanges setup.image.now desk desk' false
     → (IsTrue desk.tells → Room setup ecc desk → HasPut (in_ecc.known_of ecc) (new_block ecc input.layer (correct input)) (bytes_of desk.files setup.image.now) (bytes_of desk'.files setup.image.now))
@@ -141,61 +170,31 @@ along_put : (setup : Setup) (course : CourseSeen) (rack : RackState) (first desk
     → settled_layers (sight_of setup course rack desk' is window') ≡ settled_layers (sight_of setup course rack desk was window) ++ input.layer ∷ []
     → Along (sight_of setup course rack first noted begun) (sight_of setup course rack desk' is window')
 along_put setup course rack first desk desk' noted was is begun window window' ecc input at changes puts notes less more =
-    let f = sight_of setup course rack first noted begun in
     let block = new_block ecc input.layer (correct input) in
     let step = step_is setup course rack first noted begun ecc input at.opened at.sound at.fits in
     let sound = at.along.sound at.sound in
     let put : IsTrue desk.tells → HasPut (known_of setup.medium.now) block (bytes_of desk.files setup.image.now) (bytes_of desk'.files setup.image.now) =
     λ t. subst (λ (n : Known). HasPut n block (bytes_of desk.files setup.image.now) (bytes_of desk'.files setup.image.now)) (known_same setup.medium.now ecc at.opened) (puts t (room setup course rack desk was window ecc at.opened sound t)) in
-    let some : Puts setup desk desk' block = λ t. all_is_some (known_of setup.medium.now) block (bytes_of desk.files setup.image.now) (bytes_of desk'.files setup.image.now) (put t) in
-    record {
-      setting = refl;
-      kept_reads = refl;
-      kept_writes = refl;
-      drives = same-drives (moment setup course rack first) (moment setup course rack desk') refl refl;
-      asks = λ tell. record { more = 0; shown = omega arith; counted = omega arith };
-      desk = desk_put setup course rack first desk desk' false block at.along.desk changes some;
-      settled_rise = omega (arith, at.along.settled_rise, less);
-      sound = λ s. sound_put setup course rack desk desk' was is window window' false block sound changes some
-          (layers_kept (layer_count course.shape) input.layer ecc (correct input) was is sound.layers notes) (omega (arith, less, sound.window_fits));
-      told = λ w asks t all stands.
-          let told : IsTrue desk.tells = subst (λ (b : Bool). IsTrue b) (sym at.along.desk.tells) t in
-          stands_put w asks setup course rack desk desk' was is window window' ecc input.layer (correct input) step sound told changes (put told) notes more
-          (value_of w asks f input setup.medium.now.sectors stands at.sound at.none_rose t at.fits) (at.along.told w asks t all stands);
-      stays = λ y t guarded.
-          let told : IsTrue desk.tells = subst (λ (b : Bool). IsTrue b) (sym at.along.desk.tells) t in
-          guarded_put y setup course rack desk desk' was is window window' ecc input.layer (correct input) step sound (some told) (at.along.stays y t guarded);
-    }
+    along_on setup course rack first desk desk' noted was is begun window window' false ecc input at changes
+    (λ t. all_is_some (known_of setup.medium.now) block (bytes_of desk.files setup.image.now) (bytes_of desk'.files setup.image.now) (put t))
+    (layers_kept (layer_count course.shape) input.layer ecc (correct input) was is sound.layers notes) (omega (arith, at.inside, less))
+    (λ w asks t value stands.
+    stands_put w asks setup course rack desk desk' was is window window' ecc input.layer (correct input) step sound t changes (put t) notes more value stands)
 
 along_failed : (setup : Setup) (course : CourseSeen) (rack : RackState) (first desk desk' : DeskState) (noted was is : Noted) (begun window : ℕ) (ecc : Ecc) (input : LayerInput)
     → IsAt setup course rack first desk noted was begun window ecc input → OnlyChanges setup.image.now desk desk' true
     → (IsTrue desk.tells → Room setup ecc desk → IsPutting (in_ecc.known_of ecc) (new_block ecc input.layer (correct input)) (bytes_of desk.files setup.image.now) (bytes_of desk'.files setup.image.now))
     → is ≡ was → Along (sight_of setup course rack first noted begun) (sight_of setup course rack desk' is begun)
 along_failed setup course rack first desk desk' noted was is begun window ecc input at changes puts same =
-    let f = sight_of setup course rack first noted begun in
     let block = new_block ecc input.layer (correct input) in
     let step = step_is setup course rack first noted begun ecc input at.opened at.sound at.fits in
     let sound = at.along.sound at.sound in
     let put : Puts setup desk desk' block =
     λ t. subst (λ (n : Known). IsPutting n block (bytes_of desk.files setup.image.now) (bytes_of desk'.files setup.image.now)) (known_same setup.medium.now ecc at.opened) (puts t (room setup course rack desk was window ecc at.opened sound t)) in
-    record {
-      setting = refl;
-      kept_reads = refl;
-      kept_writes = refl;
-      drives = same-drives (moment setup course rack first) (moment setup course rack desk') refl refl;
-      asks = λ tell. record { more = 0; shown = omega arith; counted = omega arith };
-      desk = desk_put setup course rack first desk desk' true block at.along.desk changes put;
-      settled_rise = omega arith;
-      sound = λ s. sound_put setup course rack desk desk' was is window begun true block sound changes put
-          (subst (λ (n : Noted). HasLayers (layer_count course.shape) n) (sym same) sound.layers) at.sound.window_fits;
-      told = λ w asks t all stands.
-          let told : IsTrue desk.tells = subst (λ (b : Bool). IsTrue b) (sym at.along.desk.tells) t in
-          stands_failed w asks setup course rack desk desk' was is window begun ecc input.layer (correct input) step sound told changes (put told) same at.inside
-          (value_of w asks f input setup.medium.now.sectors stands at.sound at.none_rose t at.fits) (at.along.told w asks t all stands);
-      stays = λ y t guarded.
-          let told : IsTrue desk.tells = subst (λ (b : Bool). IsTrue b) (sym at.along.desk.tells) t in
-          guarded_put y setup course rack desk desk' was is window begun ecc input.layer (correct input) step sound (put told) (at.along.stays y t guarded);
-    }
+    along_on setup course rack first desk desk' noted was is begun window begun true ecc input at changes put
+    (subst (λ (n : Noted). HasLayers (layer_count course.shape) n) (sym same) sound.layers) (omega arith)
+    (λ w asks t value stands.
+    stands_failed w asks setup course rack desk desk' was is window begun ecc input.layer (correct input) step sound t changes (put t) same at.inside value stands)
 
 -- the window
 

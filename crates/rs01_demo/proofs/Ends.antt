@@ -1,7 +1,6 @@
 -- The ways that every demonstration ends, whoever works its layers.
-use Rattle.std.proofs.Common.{◌≡◌, ◌≢◌, ◌∙◌, ℕ, List, subst, sym, refl, arith, Bool, true, false}
+use Rattle.std.proofs.Common.{◌≡◌, ◌≢◌, ℕ, List, subst, sym, refl, true, false}
 use Rattle.std.specs.Prelude.{IsTrue, Some, Result, Ok, Err}
-use Rattle.rs01_outside.specs.Causes.{Rose}
 use Rattle.rs01_outside.specs.DeskState.{DeskState, OnlyChanges, OnlyReads, WorksOn}
 use Rattle.rs01_outside.specs.declared.Failed.{Failed}
 use Rattle.rs01_outside.proofs.States.{works-changes, works-reads}
@@ -14,7 +13,7 @@ use Rattle.rs01_fix.specs.Fixing.{IsFix}
 use Rattle.rs01_fix.specs.declared.refusal.FixRefusal.{FixRefusal}
 use Rattle.rs01_report.specs.declared.reports.CreateReport.{CreateReport}
 use Rattle.rs01_report.specs.declared.reports.FixReport.{FixReport}
-use Rattle.rs01_demo.specs.Faults.{CountsFaults, IsFault, WorksOnTwo, reads_badly, walk_refusal, writes_badly}
+use Rattle.rs01_demo.specs.Faults.{IsFault, WorksOnTwo, reads_badly, walk_refusal, writes_badly}
 use Rattle.rs01_demo.specs.Plan.{IsInRange, original}
 use Rattle.rs01_demo.specs.Showing.{IsDemo, IsProtected, IsReadied, IsRepaired}
 use Rattle.rs01_demo.specs.Steps.{IsPartly, Marks, TellsOf}
@@ -22,54 +21,15 @@ use Rattle.rs01_demo.specs.declared.demonstration.Demonstration.{Demonstration}
 use Rattle.rs01_demo.specs.declared.plan.Plan.{Plan}
 use Rattle.rs01_demo.specs.declared.refusal.DemoRefusal.{DemoRefusal}
 use Rattle.rs01_demo.specs.declared.refusal.DemoRefusal.TheVariants.{Create, Fix, WriteFault}
+use Rattle.rs01_demo.proofs.CountLemmas.{on_first, on_second, two_then}
 use Rattle.rs01_demo.proofs.SetUpLemmas.{making_stops, marking_stops, protecting_stops, set_up_is}
 use Rattle.rs01_demo.proofs.ToldLemmas.{repairing_stops, shown_so, telling_stops}
-
--- work on one of the two files
-counts : (name : List ℕ) (old new : DeskState) (reading writing : Bool) → WorksOn name old new reading writing → CountsFaults old new reading writing
-counts name old new reading writing works = record {
-  tells = works.tells;
-  reads_later = works.reads_later;
-  writes_later = works.writes_later;
-  read_rose = works.read_rose;
-  read_kept = works.read_kept;
-  write_rose = works.write_rose;
-  write_kept = works.write_kept;
-}
-
-on_image : (image ecc : List ℕ) (old new : DeskState) (reading writing : Bool) → WorksOn image old new reading writing → WorksOnTwo image ecc old new reading writing
-on_image image ecc old new reading writing works = record {
-  counts = counts image old new reading writing works;
-  elsewhere = λ t name other other'. works.elsewhere t name other;
-}
-
-on_ecc : (image ecc : List ℕ) (old new : DeskState) (reading writing : Bool) → WorksOn ecc old new reading writing → WorksOnTwo image ecc old new reading writing
-on_ecc image ecc old new reading writing works = record {
-  counts = counts ecc old new reading writing works;
-  elsewhere = λ t name other other'. works.elsewhere t name other';
-}
-
--- work on both behind work that succeeded
-two_then : (image ecc : List ℕ) (a b c : DeskState) (reading writing : Bool) → WorksOnTwo image ecc a b false false → WorksOnTwo image ecc b c reading writing
-    → WorksOnTwo image ecc a c reading writing
-two_then image ecc a b c reading writing one other = record {
-  counts = record {
-    tells = other.counts.tells ∙ one.counts.tells;
-    reads_later = omega (arith, one.counts.reads_later, other.counts.reads_later);
-    writes_later = omega (arith, one.counts.writes_later, other.counts.writes_later);
-    read_rose = λ h. subst (λ n. Rose n c.read_faults) (one.counts.read_kept refl) (other.counts.read_rose h);
-    read_kept = λ h. other.counts.read_kept h ∙ one.counts.read_kept refl;
-    write_rose = λ h. subst (λ n. Rose n c.write_faults) (one.counts.write_kept refl) (other.counts.write_rose h);
-    write_kept = λ h. other.counts.write_kept h ∙ one.counts.write_kept refl;
-  };
-  elsewhere = λ t name apart apart'. other.elsewhere (subst IsTrue (sym one.counts.tells) t) name apart apart' ∙ one.elsewhere t name apart apart';
-}
 
 -- the image wasn't made
 pub not_made : (plan : Plan) (image ecc : List ℕ) (old new : DeskState) (why : DemoRefusal) → image ≢ ecc → WorksOn image old new (reads_badly why) (writes_badly why) → IsFault why
     → (IsTrue old.tells → IsPartly (original plan) (old.files image) (new.files image)) → IsDemo plan image ecc old new (Err why)
 not_made plan image ecc old new why differ works fault partly = record {
-  works = on_image image ecc old new (reads_badly why) (writes_badly why) works;
+  works = on_first image ecc old new (reads_badly why) (writes_badly why) works;
   answer = λ t. making_stops plan image ecc old.files new.files why differ fault (works.elsewhere t) (partly t);
 }
 
@@ -101,7 +61,7 @@ pub not_protected : (plan : Plan) (image ecc : List ℕ) (old now : DeskState) (
 not_protected plan image ecc old now made why is given =
     let p = made_as plan image ecc old now made (Err why) is given in
     record {
-      works = two_then image ecc old p.start now _ _ (on_image image ecc old p.start false false p.works) (on_ecc image ecc p.start now _ _ p.creates.works);
+      works = two_then image ecc old p.start now _ _ (on_first image ecc old p.start false false p.works) (on_second image ecc p.start now _ _ p.creates.works);
       left = λ t.
           let told = subst IsTrue (sym p.works.tells) t in
           protecting_stops plan image ecc old.files p.start.files now.files why p.differ p.range (p.image_is t) (p.works.elsewhere t)
@@ -111,7 +71,7 @@ not_protected plan image ecc old now made why is given =
 -- both were made
 both_made : (plan : Plan) (image ecc : List ℕ) (old now : DeskState) (report : CreateReport) → IsProtected plan image ecc old now (Ok report) → WorksOnTwo image ecc old now false false
 both_made plan image ecc old now report p =
-    two_then image ecc old p.start now false false (on_image image ecc old p.start false false p.works) (on_ecc image ecc p.start now false false p.creates.works)
+    two_then image ecc old p.start now false false (on_first image ecc old p.start false false p.works) (on_second image ecc p.start now false false p.creates.works)
 
 pub marked : (plan : Plan) (image ecc : List ℕ) (old now new : DeskState) (made : Result CreateReport CreateRefusal) (report : CreateReport) (value : Unit {0}) → made ≡ Ok report
     → IsProtected plan image ecc old now made → OnlyChanges image now new false
@@ -120,7 +80,7 @@ marked plan image ecc old now new made report value is given changes marks =
     let p = made_as plan image ecc old now made (Ok report) is given in
     let works = both_made plan image ecc old now report p in
     record {
-      works = two_then image ecc old now new false false works (on_image image ecc now new false false (works-changes image now new false changes));
+      works = two_then image ecc old now new false false works (on_first image ecc now new false false (works-changes image now new false changes));
       left = λ t.
           let start = subst IsTrue (sym p.works.tells) t in
           let told = subst IsTrue (sym works.counts.tells) t in
@@ -134,7 +94,7 @@ not_marked plan image ecc old now new made report failed is given changes marks 
     let p = made_as plan image ecc old now made (Ok report) is given in
     let works = both_made plan image ecc old now report p in
     record {
-      works = two_then image ecc old now new false true works (on_image image ecc now new false true (works-changes image now new true changes));
+      works = two_then image ecc old now new false true works (on_first image ecc now new false true (works-changes image now new true changes));
       left = λ t.
           let start = subst IsTrue (sym p.works.tells) t in
           let told = subst IsTrue (sym works.counts.tells) t in
@@ -151,7 +111,7 @@ pub not_repaired : (plan : Plan) (image ecc : List ℕ) (old now : DeskState) (s
 not_repaired plan image ecc old now sum fixed why is given =
     let p = fixed_as plan image ecc old now sum fixed (Err why) is given in
     record {
-      works = two_then image ecc old p.start now _ _ p.readied.works (on_image image ecc p.start now _ _ p.fixes.works);
+      works = two_then image ecc old p.start now _ _ p.readied.works (on_first image ecc p.start now _ _ p.fixes.works);
       answer = λ t.
           let told = subst IsTrue (sym p.readied.works.counts.tells) t in
           repairing_stops plan image ecc old.files p.start.files now.files sum why p.differ p.range (p.readied.left t) (p.fixes.works.elsewhere told) (p.fixes.answer told);
@@ -160,7 +120,7 @@ not_repaired plan image ecc old now sum fixed why is given =
 -- it was repaired, and then it was told or that failed
 all_done : (plan : Plan) (image ecc : List ℕ) (old now : DeskState) (sum : List ℕ) (report : FixReport) → IsRepaired plan image ecc old now sum (Ok report) → WorksOnTwo image ecc old now false false
 all_done plan image ecc old now sum report p =
-    two_then image ecc old p.start now false false p.readied.works (on_image image ecc p.start now false false p.fixes.works)
+    two_then image ecc old p.start now false false p.readied.works (on_first image ecc p.start now false false p.fixes.works)
 
 pub shown : (plan : Plan) (image ecc : List ℕ) (old now new : DeskState) (sum : List ℕ) (fixed : Result FixReport FixRefusal) (report : FixReport) (told : Demonstration) → fixed ≡ Ok report
     → IsRepaired plan image ecc old now sum fixed → OnlyReads now new false
@@ -169,7 +129,7 @@ shown plan image ecc old now new sum fixed report told is given reads tells =
     let p = fixed_as plan image ecc old now sum fixed (Ok report) is given in
     let works = all_done plan image ecc old now sum report p in
     record {
-      works = two_then image ecc old now new false false works (on_image image ecc now new false false (works-reads image now new false reads));
+      works = two_then image ecc old now new false false works (on_first image ecc now new false false (works-reads image now new false reads));
       answer = λ t.
           let start = subst IsTrue (sym p.readied.works.counts.tells) t in
           let here = subst IsTrue (sym works.counts.tells) t in
@@ -190,7 +150,7 @@ not_told_as plan image ecc old now new sum report why p reads =
     let works = all_done plan image ecc old now sum report p in
     record {
       works = two_then image ecc old now new (reads_badly (walk_refusal why)) (writes_badly (walk_refusal why)) works
-          (on_image image ecc now new (reads_badly (walk_refusal why)) (writes_badly (walk_refusal why))
+          (on_first image ecc now new (reads_badly (walk_refusal why)) (writes_badly (walk_refusal why))
           (subst (λ b. WorksOn image now new (reads_badly (walk_refusal why)) b) (no_write why)
           (works-reads image now new (reads_badly (walk_refusal why)) (subst (λ b. OnlyReads now new b) (read_badly Demonstration why) reads))));
       answer = λ t.

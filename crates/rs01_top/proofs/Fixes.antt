@@ -1,5 +1,5 @@
 -- What holds of a run that repairs an image, by how the repair and the last text ended.
-use Rattle.std.proofs.Common.{◌≡◌, ◌&&◌, ◌==◌, ◌⊎◌, ℕ, List, [], refl, sym, subst, ap, ◌∙◌, inl, inr, arith, Bool, true, false, length}
+use Rattle.std.proofs.Common.{◌≡◌, ◌&&◌, ◌==◌, ◌⊎◌, ℕ, List, [], refl, sym, subst, ap, ◌∙◌, arith, Bool, true, false, length}
 use Rattle.std.specs.Prelude.{IsTrue, IsOk, IsOkAnd, IsSomeAnd, Option, Some, None, Result, Ok, Err}
 use Rattle.std.specs.Option.{unwrap_or}
 use Rattle.rs01_outside.specs.DeskState.{DeskState, WorksOn}
@@ -11,6 +11,7 @@ use Rattle.rs01_fix.specs.Fixing.{IsFix}
 use Rattle.rs01_fix.specs.Outcome.{Refuses, Repairs, is_read_fault, is_write_fault}
 use Rattle.rs01_fix.specs.declared.refusal.FixRefusal.{FixRefusal}
 use Rattle.rs01_fix.specs.declared.refusal.FixRefusal.TheVariants.{NoFile, Head, Size, Body, ReadFault, WriteFault, OutOfMemory}
+use Rattle.rs01_fix.proofs.CutLemmas.{fixed_between}
 use Rattle.rs01_report.specs.declared.faults.Fault.{Fault}
 use Rattle.rs01_report.specs.declared.reports.FixReport.{FixReport}
 use Rattle.rs01_report.specs.Faults.{fault_line, status_of}
@@ -44,19 +45,10 @@ of_err (Err x) why e two = not_words x (ap status_of (some_same (fix_fault x) wh
 not_of_words : (image ecc : List ℕ) (cut : Bool) → NotOfWords (fix_work image ecc cut)
 not_of_words image ecc cut found why e two = of_err (answer_to image ecc cut found) why e two
 
--- the fixed file is one that may stand
-whole_between : (old fixed : List ℕ) → IsBetween old fixed fixed
-whole_between old fixed = record {
-  not_shorter = grind arith;
-  not_longer = grind arith;
-  below = λ k h b. inr (h, refl);
-  past = λ k h b. inl refl;
-}
-
 stood : (r : Result Repaired FixRefusal) (image : List ℕ) (old new : Files) (report : FixReport)
     → IsOkAnd r (Repairs image old new report) → MayStand r (old image) (new image)
 stood (Ok x) image old new report p =
-    subst (λ (f : Option (List ℕ)). IsSomeAnd f (IsBetween (unwrap_or (old image) []) x.file)) (sym p.file.there) (whole_between (unwrap_or (old image) []) x.file)
+    subst (λ (f : Option (List ℕ)). IsSomeAnd f (IsBetween (unwrap_or (old image) []) x.file)) (sym p.file.there) (fixed_between (unwrap_or (old image) []) x.file)
 stood (Err why) image old new report p = absurd p
 
 told_of : (r : Result Repaired FixRefusal) (image ecc : List ℕ) (old new : Outside) (report : FixReport)

@@ -1,5 +1,5 @@
 -- What holds of a run that reads a medium into an image in rising order.
-use Rattle.std.proofs.Common.{ℕ, List, [], refl, subst, ap, inl, inr, arith, false, Bor}
+use Rattle.std.proofs.Common.{ℕ, List, [], refl, ap, inl, inr, arith, false, Bor}
 use Rattle.std.specs.Prelude.{IsTrue, Option, Result, Ok, Err}
 use Rattle.std.specs.Option.{option_map, unwrap_or}
 use Rattle.rs01_outside.specs.DeskState.{WorksOn}
@@ -20,8 +20,8 @@ use Rattle.rs01_top.specs.Outside.{World}
 use Rattle.rs01_top.specs.Read.{linear_reading, read_status, read_work}
 use Rattle.rs01_top.specs.Run.{Ends, IsRun}
 use Rattle.rs01_top.proofs.Endings.{rack_lasts}
-use Rattle.rs01_top.proofs.MediumFaults.{file_of, sized_alone}
-use Rattle.rs01_top.proofs.Readings.{Fits, Told, good_by, not_read, read, worked}
+use Rattle.rs01_top.proofs.MediumFaults.{sized_alone}
+use Rattle.rs01_top.proofs.Readings.{Fits, good_by, not_read, read, told_as, worked}
 
 -- what was left and told, and where it was left
 abbrev IsRead : Manner → List ℕ → World → World → ReadReport → Found → Type 0
@@ -52,12 +52,6 @@ ToldBy image name manner old new result =
     IsTrue old.desk.tells → AllTell new.rack
     → Reads (option_map (λ (n : Bor (List ℕ)). old.desk.files n.now) name) manner old.rack new.rack (old.desk.files image) (new.desk.files image) result
 
-told_as : (image : List ℕ) (name : Option (Bor (List ℕ))) (manner : Manner) (old new : World) (result : Result ReadReport ReadRefusal) → ToldBy image name manner old new result
-    → Told (linear_reading image (option_map (λ (n : Bor (List ℕ)). n.now) name) manner) (IsRead manner image old new) (IsLeft manner image old new) old new result
-told_as image name manner old new result is d =
-    subst (λ (file : Option (Option (List ℕ))). Reads file manner old.rack new.rack (old.desk.files image) (new.desk.files image) result)
-    (file_of old.desk.files name) (is d.0 (d.1 refl))
-
 pub read_by : (image : List ℕ) (name : Option (Bor (List ℕ))) (jump tries : ℕ) (old new : World) (report : ReadReport) (status : ℕ)
     → WorksOn image old.desk new.desk false false → StaysGood old.desk new.desk name image old.rack new.rack
     → lasting.RackLasts old.rack new.rack → ToldBy image name (record { jump = jump; tries = tries }) old new (Ok report)
@@ -68,7 +62,7 @@ read_by image name jump tries old new report status works stays lasts is ends =
     let ecc = option_map (λ (n : Bor (List ℕ)). n.now) name in
     read (linear_reading image ecc manner) (IsRead manner image old new) (IsLeft manner image old new) old new report status
     (fits_linear image ecc manner old new works.elsewhere lasts) (worked (linear_reading image ecc manner) old new (Ok report) works (good_by (linear_reading image ecc manner) name old new refl stays) tt tt) (rack_lasts old.rack new.rack lasts)
-    (told_as image name manner old new (Ok report) is) ends
+    (told_as (linear_reading image ecc manner) (IsRead manner image old new) (IsLeft manner image old new) name old new (Ok report) refl is) ends
 
 pub not_read_by : (image : List ℕ) (name : Option (Bor (List ℕ))) (jump tries : ℕ) (old new : World) (why : ReadRefusal) (status : ℕ)
     → WorksOn image old.desk new.desk (is_read_fault {T = ReadReport} (Err why)) (is_write_fault {T = ReadReport} (Err why))
@@ -81,4 +75,4 @@ not_read_by image name jump tries old new why status works stays untouched lasts
     let ecc = option_map (λ (n : Bor (List ℕ)). n.now) name in
     not_read (linear_reading image ecc manner) (IsRead manner image old new) (IsLeft manner image old new) old new why status
     (fits_linear image ecc manner old new works.elsewhere lasts) (worked (linear_reading image ecc manner) old new (Err why) works (good_by (linear_reading image ecc manner) name old new refl stays) untouched (sized_alone name why alone)) (rack_lasts old.rack new.rack lasts) by cause
-    (told_as image name manner old new (Err why) is) ends
+    (told_as (linear_reading image ecc manner) (IsRead manner image old new) (IsLeft manner image old new) name old new (Err why) refl is) ends

@@ -5,6 +5,7 @@ use Rattle.std.specs.Option.{option_map}
 use Rattle.rs01_outside.specs.Causes.{Rose}
 use Rattle.rs01_outside.specs.DeskState.{WorksOn}
 use Rattle.rs01_outside.specs.Files.{SameElsewhere}
+use Rattle.rs01_rack.specs.Rack.{AllTell}
 use Rattle.rs01_rack.specs.declared.refusal.RackRefusal.TheVariants as rack
 use Rattle.rs01_ecchead.specs.declared.opened.EccRefusal.{EccRefusal}
 use Rattle.rs01_ecchead.specs.declared.opened.EccRefusal.TheVariants as ecc
@@ -88,6 +89,16 @@ abbrev pub Told : Reading → (ReadReport → Found → Type 0) → (Found → T
 Told reading IsRead IsLeft old new result =
     IsKnown (work_of_reading reading) old new
     → ReadsBy (option_map old.desk.files reading.ecc) old.rack new.rack (old.desk.files reading.image) (new.desk.files reading.image) IsRead IsLeft result
+
+-- that, where it is known by the name of the file as it is passed
+pub told_as : (reading : Reading) (IsRead : ReadReport → Found → Type 0) (IsLeft : Found → Type 0) (name : Option (Bor (List ℕ))) (old new : World) (result : Result ReadReport ReadRefusal)
+    → reading.ecc ≡ option_map (λ (n : Bor (List ℕ)). n.now) name
+    → (IsTrue old.desk.tells → AllTell new.rack
+    → ReadsBy (option_map (λ (n : Bor (List ℕ)). old.desk.files n.now) name) old.rack new.rack (old.desk.files reading.image) (new.desk.files reading.image) IsRead IsLeft result)
+    → Told reading IsRead IsLeft old new result
+told_as reading IsRead IsLeft name old new result same is d =
+    subst (λ (file : Option (Option (List ℕ))). ReadsBy file old.rack new.rack (old.desk.files reading.image) (new.desk.files reading.image) IsRead IsLeft result)
+    (file_of old.desk.files name ∙ ap (λ (n : Option (List ℕ)). option_map old.desk.files n) (sym same)) (is d.0 (d.1 refl))
 
 -- that is what the work asks for
 pub record Fits (reading : Reading) (IsRead : ReadReport → Found → Type 0) (IsLeft : Found → Type 0) (old new : World) : Type 0 where

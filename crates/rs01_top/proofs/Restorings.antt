@@ -1,9 +1,8 @@
 -- A run of `fix` gives back what its definition does.
 use Rattle.std.proofs.Common.{◌≡◌, ◌∙◌, ℕ, Bool, List, sym, ap, subst}
-use Rattle.std.specs.Prelude.{IsOkAnd, IsSomeAnd, IsTrue, Option, None, Some, Ok, Result}
+use Rattle.std.specs.Prelude.{IsOkAnd, IsSomeAnd, IsTrue, Option, None, Ok, Result}
 use Rattle.rs01_ecchead.specs.Opened.{Opened, opened_file}
-use Rattle.rs01_repair.specs.Intact.{HasTheOthers, Protects}
-use Rattle.rs01_fix.specs.Answer.{Repaired, fix_answer, repaired}
+use Rattle.rs01_fix.specs.Answer.{Repaired, repaired}
 use Rattle.rs01_fix.specs.ComesBack.{ComesBack}
 use Rattle.rs01_fix.specs.declared.refusal.FixRefusal.{FixRefusal}
 use Rattle.rs01_fix.proofs.ComesBack.{repaired_comes_back}

@@ -22,8 +22,8 @@ use Rattle.rs01_top.specs.Read.{read_status}
 use Rattle.rs01_top.specs.Run.{Ends, IsRun}
 use Rattle.rs01_top.specs.Turned.{IsTurned, adaptive_work, turned_reading}
 use Rattle.rs01_top.proofs.Endings.{rack_lasts}
-use Rattle.rs01_top.proofs.MediumFaults.{file_of, sized_alone}
-use Rattle.rs01_top.proofs.Readings.{Fits, Told, good_by, not_read, read, worked}
+use Rattle.rs01_top.proofs.MediumFaults.{sized_alone}
+use Rattle.rs01_top.proofs.Readings.{Fits, good_by, not_read, read, told_as, worked}
 
 -- what was left and told, and where it was left
 abbrev IsRead : ℕ → List ℕ → World → World → ReadReport → Found → Type 0
@@ -56,12 +56,6 @@ ToldBy image name tries old new result =
     IsTrue old.desk.tells → AllTell new.rack
     → Reads (option_map (λ (n : Bor (List ℕ)). old.desk.files n.now) name) tries old.rack new.rack (old.desk.files image) (new.desk.files image) result
 
-told_as : (image : List ℕ) (name : Option (Bor (List ℕ))) (tries : ℕ) (old new : World) (result : Result ReadReport ReadRefusal) → ToldBy image name tries old new result
-    → Told (turned_reading image (option_map (λ (n : Bor (List ℕ)). n.now) name) tries) (IsRead tries image old new) (IsLeft tries image old new) old new result
-told_as image name tries old new result is d =
-    subst (λ (file : Option (Option (List ℕ))). Reads file tries old.rack new.rack (old.desk.files image) (new.desk.files image) result)
-    (file_of old.desk.files name) (is d.0 (d.1 refl))
-
 turned_by : (image : List ℕ) (name : Option (Bor (List ℕ))) (tries : ℕ) (old new : World) (report : ReadReport) (status : ℕ)
     → WorksOn image old.desk new.desk false false → StaysGood old.desk new.desk name image old.rack new.rack
     → lasting.RackLasts old.rack new.rack → ToldBy image name tries old new (Ok report)
@@ -71,7 +65,7 @@ turned_by image name tries old new report status works stays lasts is ends =
     let ecc = option_map (λ (n : Bor (List ℕ)). n.now) name in
     read (turned_reading image ecc tries) (IsRead tries image old new) (IsLeft tries image old new) old new report status
     (fits_turned image ecc tries old new works.elsewhere) (worked (turned_reading image ecc tries) old new (Ok report) works (good_by (turned_reading image ecc tries) name old new refl stays) tt tt) (rack_lasts old.rack new.rack lasts)
-    (told_as image name tries old new (Ok report) is) ends
+    (told_as (turned_reading image ecc tries) (IsRead tries image old new) (IsLeft tries image old new) name old new (Ok report) refl is) ends
 
 not_turned_by : (image : List ℕ) (name : Option (Bor (List ℕ))) (tries : ℕ) (old new : World) (why : ReadRefusal) (status : ℕ)
     → WorksOn image old.desk new.desk (is_read_fault {T = ReadReport} (Err why)) (is_write_fault {T = ReadReport} (Err why))
@@ -83,7 +77,7 @@ not_turned_by image name tries old new why status works stays untouched lasts by
     let ecc = option_map (λ (n : Bor (List ℕ)). n.now) name in
     not_read (turned_reading image ecc tries) (IsRead tries image old new) (IsLeft tries image old new) old new why status
     (fits_turned image ecc tries old new works.elsewhere) (worked (turned_reading image ecc tries) old new (Err why) works (good_by (turned_reading image ecc tries) name old new refl stays) untouched (sized_alone name why alone)) (rack_lasts old.rack new.rack lasts) by cause
-    (told_as image name tries old new (Err why) is) ends
+    (told_as (turned_reading image ecc tries) (IsRead tries image old new) (IsLeft tries image old new) name old new (Err why) refl is) ends
 
 -- by what a reading by turns answered
 pub told_turned :

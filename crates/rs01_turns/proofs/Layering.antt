@@ -163,13 +163,13 @@ unfolding after_ask
 ask-is-sparing terms now s next sparing =
     after-sparing terms.shape now.states s (kind_of (asking_at terms now s)) (next-unread now.states now.place s next) sparing
 
-step-sparing : (terms : Terms) (now : Reading) → IsSparing terms.shape now.states → IsSparing terms.shape (step terms now).states
+pub step-sparing : (terms : Terms) (now : Reading) → IsSparing terms.shape now.states → IsSparing terms.shape (step terms now).states
 step-sparing terms now sparing = ⊎_elim
     (λ h. subst (λ (r : Reading). IsSparing terms.shape r.states) (sym (none-still terms now h)) sparing)
     (λ h. subst (λ (r : Reading). IsSparing terms.shape r.states) (sym (some-steps terms now h.0 h.1)) (ask-is-sparing terms now h.0 h.1 sparing))
     (cases-next (next_of now))
 
-steps-sparing : (terms : Terms) (n : ℕ) (now : Reading) → IsSparing terms.shape now.states → IsSparing terms.shape (iterate (step terms) n now).states
+pub steps-sparing : (terms : Terms) (n : ℕ) (now : Reading) → IsSparing terms.shape now.states → IsSparing terms.shape (iterate (step terms) n now).states
 steps-sparing terms zero now sparing = sparing
 steps-sparing terms (suc n) now sparing = steps-sparing terms n (step terms now) (step-sparing terms now sparing)
 
