@@ -12,16 +12,16 @@ verb_sense verb.Create = codes "makes ECC from IMAGE, and replaces what stands u
 verb_sense verb.Fix = codes "computes lost sectors again, and writes them into IMAGE"
 verb_sense verb.Verify = codes "tells what is missing or altered in IMAGE, and changes nothing"
 verb_sense verb.Scan = codes "tells which sectors the drives still give, and writes nothing"
-verb_sense verb.Read = codes "asks the drives for each sector that IMAGE doesn't have good"
+verb_sense verb.Read = codes "asks the drives for each sector that IMAGE doesn't have good, and writes it there"
 verb_sense verb.Demo = codes "makes demo.iso and demo.ecc anew, damages the image and repairs it"
 
 abbrev pub option_sense : OptionWord → List ℕ
 option_sense Parity = codes "parity bytes in a codeword of 255"
 option_sense Workers = codes "threads that work"
 option_sense Cut = codes "cuts off what follows the image in its file"
-option_sense Drive = codes "a drive, or a file in place of one; one at least, and they are asked in this order"
+option_sense Drive = codes "a drive, or a file in place of one; asked in this order; given at least once"
 option_sense Adaptive = codes "goes on in the middle of the longest unread run"
-option_sense Jump = codes "sectors from a failed one to the next that is tried"
+option_sense Jump = codes "without --adaptive: how far behind a failed sector it goes on"
 option_sense Tries = codes "how often a drive is asked for a sector"
 
 abbrev pub plain_sense : PlainName → List ℕ

@@ -21,10 +21,13 @@ page_of None = All
 page_of (Some verb) = Page verb
 
 -- a command is asked for its page by the option behind it
+abbrev pub asks_page : List ℕ → Bool
+asks_page word = bytes_eq word (codes "--help") || bytes_eq word (codes "-h")
+
 abbrev pub page_asked : Option Verb → Option (List ℕ) → Option Topic
 page_asked None second = None
 page_asked (Some verb) None = None
-page_asked (Some verb) (Some word) = if bytes_eq word (codes "--help") then Some (Page verb) else None
+page_asked (Some verb) (Some word) = if asks_page word then Some (Page verb) else None
 
 abbrev pub topic_by : Option (List ℕ) → Option (List ℕ) → Option Topic
 topic_by None second = Some All

@@ -33,7 +33,8 @@ as /dev/sr0. A value is a word of its own, as in --parity 64, and a name that
 begins with two dashes is written ./--name. A single dash isn't standard input,
 and pipes aren't read. An image has less than 32 GiB, in sectors of 2048 bytes.
 One that another program copied is as good: what it left where it could not
-read is found by the recorded checksums.
+read is found by the recorded checksums. Without an ECC read keeps all that
+stands in IMAGE, but for the marks of sectors that it couldn't read itself.
 
 With 32 parity bytes ECC takes 15 % of IMAGE, which may then lose 14 % in one
 row, or 5 % here and there; with high (64) it takes 34 %, for 33 % or 19 %. The
@@ -41,8 +42,8 @@ line 'fullest layer 96: 1 of 32' says that layer 96 has lost the most, 1 of the
 32 sectors that it may lose: all of IMAGE can be restored. A layer that has lost
 more waits for more to be read. fix that was broken off is simply run again.
 
-At a terminal it is told how far the work has come, and what to do next; with
-RS01_QUIET=1 the first isn't. More stands in man dvdisaster_rs01, and in
+At a terminal it is told how far the work has come, with a picture of IMAGE, and
+what to do next; with RS01_QUIET set only the last. More stands in man dvdisaster_rs01, and in
 docs/DISC.md beside the sources.
 
 Status: 0 done, and nothing is lost or differs; 1 done, and it isn't so; 2 the

@@ -15,7 +15,8 @@ pub(crate) fn verb_sense(verb: Verb) -> &'static str
         Verb::Fix => "computes lost sectors again, and writes them into IMAGE",
         Verb::Verify => "tells what is missing or altered in IMAGE, and changes nothing",
         Verb::Scan => "tells which sectors the drives still give, and writes nothing",
-        Verb::Read => "asks the drives for each sector that IMAGE doesn't have good",
+        Verb::Read =>
+            "asks the drives for each sector that IMAGE doesn't have good, and writes it there",
         Verb::Demo => "makes demo.iso and demo.ecc anew, damages the image and repairs it",
     }
 }
@@ -29,9 +30,9 @@ pub(crate) fn option_sense(option: OptionWord) -> &'static str
         OptionWord::Workers => "threads that work",
         OptionWord::Cut => "cuts off what follows the image in its file",
         OptionWord::Drive =>
-            "a drive, or a file in place of one; one at least, and they are asked in this order",
+            "a drive, or a file in place of one; asked in this order; given at least once",
         OptionWord::Adaptive => "goes on in the middle of the longest unread run",
-        OptionWord::Jump => "sectors from a failed one to the next that is tried",
+        OptionWord::Jump => "without --adaptive: how far behind a failed sector it goes on",
         OptionWord::Tries => "how often a drive is asked for a sector",
     }
 }

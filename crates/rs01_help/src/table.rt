@@ -3,7 +3,7 @@
 use crate::hint::Hint;
 
 /// All hints. The first that fits is told.
-pub static HINTS: [Hint; 37] = [
+pub static HINTS: [Hint; 38] = [
     Hint {
         status: 0,
         command: "create",
@@ -103,10 +103,18 @@ pub static HINTS: [Hint; 37] = [
     Hint {
         status: 1,
         command: "read",
+        holds: "\nrestored ",
+        lacks: "\nrestored 0: none\n",
+        counts: "\nlost ",
+        text: "sectors stay lost, and what the parity gives was restored: read again, also with another drive, which asks only for them",
+    },
+    Hint {
+        status: 1,
+        command: "read",
         holds: "",
         lacks: "",
         counts: "\nlost ",
-        text: "sectors are lost: next is fix IMAGE ECC; without an ECC read again, also with another drive, which asks only for them",
+        text: "sectors are lost: with an ECC fix IMAGE ECC restores what it can; to read again, also with another drive, asks only for them",
     },
     Hint {
         status: 1,

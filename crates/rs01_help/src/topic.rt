@@ -3,7 +3,7 @@ ghost use Rattle.std.specs.Prelude.{◌≡◌, option_map};
 ghost use Rattle.std.specs.Option.{option_and_then};
 ghost use Rattle.rs01_words.specs.Grammar.{verb_of};
 ghost use Rattle.rs01_words.specs.Line.{texts};
-ghost use Rattle.rs01_help.specs.Topics.{asks_help, asks_version, page_asked, page_of, topic_by, topic_of};
+ghost use Rattle.rs01_help.specs.Topics.{asks_help, asks_page, asks_version, page_asked, page_of, topic_by, topic_of};
 
 use rs01_words::{Verb, verb_of, word_if_any};
 
@@ -39,13 +39,19 @@ fn page_of(verb: Option<Verb>) -> Topic
     }
 }
 
-// A command is asked for its page by the option behind it.
+// An option behind a command asks for its page.
+fn asks_page(word: &str) -> bool
+    ensures { result ≡ asks_page word.now }
+{
+    word == "--help" || word == "-h"
+}
+
 fn page_asked(verb: Option<Verb>, second: Option<&str>) -> Option<Topic>
     ensures { result ≡ page_asked verb (option_map (λ x. x.now) second.entry) }
 {
     match (verb, second) {
         (Some(verb), Some(word)) => {
-            if word == "--help" {
+            if asks_page(word) {
                 Some(Topic::Page(verb))
             } else {
                 None
@@ -81,8 +87,8 @@ fn topic_by(first: Option<&str>, second: Option<&str>) -> Option<Topic>
     page_asked(verb_of(word), second)
 }
 
-/// What the words ask to be told in place of a command's work, as by `--help`. No words ask for all. The grammar has none
-/// of these words, so a run of them is refused.
+/// What the words ask to be told in place of a command's work, as by `--help`. No words ask for all. The grammar knows none
+/// of them, so by themselves they are refused.
 #[tactic(auto, unfolding(crate::specs::Topics::topic_of))]
 pub fn topic_of(words: &[String]) -> Option<Topic>
     ensures { result ≡ topic_of (texts words.now) }
