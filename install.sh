@@ -6,10 +6,16 @@
 # PREFIX is where to (/usr/local), DESTDIR a folder put before it. The program is built first, where it isn't yet, by
 # `rt run` in crates/dvdisaster_rs01.
 set -eu
+from=$(pwd)
 cd "$(dirname "$0")"
 
 name=dvdisaster_rs01
-prefix=${DESTDIR:-}${PREFIX:-/usr/local}
+# A relative folder is meant from where the caller stands.
+case ${DESTDIR:-} in
+"" | /*) root=${DESTDIR:-} ;;
+*) root=$from/$DESTDIR ;;
+esac
+prefix=$root${PREFIX:-/usr/local}
 built=crates/$name/out/$name
 
 # Each thing that is installed: its mode, where it stands here, and where it goes.
@@ -23,18 +29,23 @@ things() {
 END
 }
 
+usage() {
+    sed -n '2,7s/^# \{0,1\}//p' install.sh >&2
+    exit 2
+}
+
 if [ "${1:-}" = --uninstall ]; then
+    [ $# -eq 1 ] || usage
     things | while read -r _ _ to; do
-        rm -f "$to"
-        echo "removed $to"
+        if [ -e "$to" ]; then
+            rm -f "$to"
+            echo "removed $to"
+        fi
     done
     exit 0
 fi
 
-if [ $# -gt 0 ]; then
-    sed -n '2,7s/^# \{0,1\}//p' "$0" >&2
-    exit 2
-fi
+[ $# -eq 0 ] || usage
 
 if [ ! -x "$built" ]; then
     (cd crates/$name && rt run)

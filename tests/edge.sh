@@ -2,30 +2,18 @@
 # Hostile trials at the system's edge: edge.sh PROGRAM
 # Prints a row for each trial, and ends with 0 only where each that was made came out as it should. What this machine
 # doesn't allow (loop devices, mounts, strace, another user) is skipped with a row that says so.
-set -u
-program=$(readlink -f "$1")
-work=$(mktemp -d)
+. "$(dirname "$0")/rows.sh"
 trap 'detach_all; rm -rf "$work"' EXIT
-cd "$work" || exit 1
-bad=0
 loops=""
 
-row() { # NAME WANT GOT: one trial, with what is wanted and what was seen
-    local mark=ok
-    if [ "$2" != "$3" ]; then mark=WRONG; bad=$((bad + 1)); fi
-    printf '%-5s %-62s %s\n' "$mark" "$1" "$3"
-}
 skipped() { printf '%-5s %-62s %s\n' skip "$1" "$2"; }
 status() { "$@" >out.txt 2>err.txt; echo $?; }
 same() { cmp -s "$1" "$2" && echo same || echo changed; }
 detach_all() { for l in $loops; do losetup -d "$l" 2>/dev/null; done; }
 have_strace() { command -v strace >/dev/null && strace -qq -o /dev/null true 2>/dev/null; }
 
-# an image of 700 sectors (4 layers), its file, and a damaged copy of it
-head -c $((700 * 2048)) /dev/urandom >good.iso
-"$program" create good.iso good.ecc >/dev/null || { echo "create failed"; exit 1; }
-damage() { cp good.iso "$1"; dd if=/dev/urandom of="$1" bs=2048 seek=100 count=60 conv=notrunc status=none; }
-damage bad.iso
+# a damaged copy of the image
+damage bad.iso 60
 damaged() { cp bad.iso d.iso; cp good.ecc d.ecc; }
 
 echo "== devices"

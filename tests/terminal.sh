@@ -2,26 +2,14 @@
 # What a person sees: terminal.sh PROGRAM
 # Runs the program at a terminal that script(1) makes, and with each kind of standard error. Prints a row for each trial,
 # and ends with 0 only where each came out as it should.
-set -u
-program=$(readlink -f "$1")
-work=$(mktemp -d)
-trap 'rm -rf "$work"' EXIT
-cd "$work" || exit 1
-bad=0
+. "$(dirname "$0")/rows.sh"
 
-row() { # NAME WANT GOT
-    local mark=ok
-    if [ "$2" != "$3" ]; then mark=WRONG; bad=$((bad + 1)); fi
-    printf '%-5s %-62s %s\n' "$mark" "$1" "$3"
-}
 at_terminal() { script -qec "$(printf '%q ' "$@")" seen.txt >/dev/null 2>&1; }
 seen() { grep -qa -- "$1" seen.txt && echo yes || echo no; }
 
-# an image of 700 sectors (4 layers), its file, a copy with 60 lost sectors, and one with more than can be restored
-head -c $((700 * 2048)) /dev/urandom >good.iso
-"$program" create good.iso good.ecc >/dev/null 2>&1 || { echo "create failed"; exit 1; }
-cp good.iso bad.iso; dd if=/dev/urandom of=bad.iso bs=2048 seek=100 count=60 conv=notrunc status=none
-cp good.iso lost.iso; dd if=/dev/urandom of=lost.iso bs=2048 seek=100 count=300 conv=notrunc status=none
+# a copy of the image with 60 lost sectors, and one with more than can be restored
+damage bad.iso 60
+damage lost.iso 300
 head -c 70000 good.ecc >cut.ecc
 cp good.iso locked.iso; chmod 0 locked.iso
 

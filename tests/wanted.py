@@ -294,6 +294,20 @@ def drive_failed(status, lines):
         return "a drive that isn't there isn't told"
 
 
+def read_lines(ecc, reading):
+    """The first lines of a reading's report, whoever chose the order of the sectors."""
+    return [
+        "read new.iso",
+        "sectors %d" % ecc.sectors,
+        "asked %d" % len(reading.read + reading.unreadable + reading.altered),
+        "kept %d" % len(reading.kept),
+        "read %d" % len(reading.read),
+        listed("unreadable", sorted(reading.unreadable)),
+        listed("altered", sorted(reading.altered)),
+        listed("not asked", reading.passed),
+    ]
+
+
 def wrong_read(case, ecc, status, lines):
     if case.image is None:
         return drive_failed(status, lines)
@@ -302,14 +316,7 @@ def wrong_read(case, ecc, status, lines):
     reading = Reading(ecc, case.image, start, jump)
     lost = sorted(reading.unreadable + reading.altered + reading.passed)
     wanted = [
-        "read new.iso",
-        "sectors %d" % ecc.sectors,
-        "asked %d" % len(reading.read + reading.unreadable + reading.altered),
-        "kept %d" % len(reading.kept),
-        "read %d" % len(reading.read),
-        listed("unreadable", reading.unreadable),
-        listed("altered", reading.altered),
-        listed("not asked", reading.passed),
+        *read_lines(ecc, reading),
         "restored 0: none",
         listed("lost", lost),
         "strange layers 0",
@@ -325,16 +332,7 @@ def wrong_turns(case, ecc, status, lines):
         return drive_failed(status, lines)
     start = case.start or b""
     reading = Turns(ecc, case.image, start)
-    wanted = [
-        "read new.iso",
-        "sectors %d" % ecc.sectors,
-        "asked %d" % len(reading.read + reading.unreadable + reading.altered),
-        "kept %d" % len(reading.kept),
-        "read %d" % len(reading.read),
-        listed("unreadable", sorted(reading.unreadable)),
-        listed("altered", sorted(reading.altered)),
-        listed("not asked", reading.passed),
-    ]
+    wanted = read_lines(ecc, reading)
     if lines[: len(wanted)] != wanted:
         return "the report doesn't begin: " + " / ".join(wanted)
     if lines[-1] != "surplus bytes %d" % max(0, len(start) - ecc.length):
