@@ -61,8 +61,11 @@ def most_lost(sectors, parity, share):
 
 
 def main():
-    sectors = int(sys.argv[1]) if len(sys.argv) > 1 else 2_298_496
-    share = float(sys.argv[2]) if len(sys.argv) > 2 else 0.99
+    try:
+        sectors = int(sys.argv[1]) if len(sys.argv) > 1 else 2_298_496
+        share = float(sys.argv[2]) if len(sys.argv) > 2 else 0.99
+    except ValueError:
+        sys.exit("usage: redundancy.py [SECTORS [SHARE]]")
     print("| `--parity` | file takes | may be lost in one run | by chance |")
     print("|---|---|---|---|")
     for parity in PARITIES:
