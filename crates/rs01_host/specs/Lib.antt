@@ -1,4 +1,5 @@
 pub mod Counting
 pub mod Keeping
+pub mod Presence
 pub mod Untold
 pub mod Reaching

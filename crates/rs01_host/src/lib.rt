@@ -23,6 +23,3 @@ pub use causes::{Cause, Causes, Reason};
 pub use file_desk::FileDesk;
 pub use file_drive::FileDrive;
 pub use standard_sink::StdSink;
-
-#[cfg(test)]
-mod tests;

@@ -1,7 +1,7 @@
 //! How long a file may become.
 ghost use Rattle.std.specs.Prelude.{◌≤◌};
 
-use crate::reading::fill;
+use crate::reading::read_text;
 use std::fs;
 use std::rt::Files;
 
@@ -24,7 +24,8 @@ const FLAGS: &str = "flags:";
 // The flag by which all that is written goes to the file's end.
 const APPEND: u64 = 0o2000;
 
-// The number that is the first word behind a label, on the first line that begins with it.
+// The number that is the first word behind a label, on the first line that begins with it: none
+// where there is no such line, or that word is no number to this radix.
 pub(crate) fn find_number(lines: &str, label: &str, radix: u32) -> Option<u64>
     requires low { 2 ≤ radix }
     requires high { radix ≤ 36 }
@@ -44,12 +45,7 @@ fn read_number<R: Files>(files: &R, name: &str, label: &str, radix: u32) -> Opti
     requires high { radix ≤ 36 }
 {
     let mut buffer = [0u8; 1024];
-    let mut file = fs::open(files, name).ok()?;
-    let count = fill(&mut file, &mut buffer).ok()?;
-    match str::from_utf8(&buffer[..count]) {
-        Ok(lines) => find_number(lines, label, radix),
-        Err(_) => None,
-    }
+    find_number(read_text(files, name, &mut buffer)?, label, radix)
 }
 
 // How long this process may make a file, where that is limited and the system tells it. At a longer

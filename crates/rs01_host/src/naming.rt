@@ -1,11 +1,11 @@
 //! What a name stands for.
-ghost use Rattle.std.specs.Prelude.{◌≡◌, ◌≢◌, ◌↔◌, Err, IfErr, IfOk, IsTrue, None, Ok, Some, is_err};
-ghost use Rattle.std.specs.IoError.{error_kind};
+ghost use Rattle.std.specs.Prelude.{◌≡◌, ◌↔◌, IsTrue, is_err};
 ghost use Rattle.rs01_host.specs.Counting.{Counts};
+ghost use Rattle.rs01_host.specs.Presence.{IsPresent};
 
 use crate::causes::Reason;
 use crate::fault_count::FaultCount;
-use crate::reading::fill;
+use crate::reading::read_text;
 use rs01_outside::Failed;
 use std::alloc::AllocError;
 use std::fs::{self, File, Metadata};
@@ -86,11 +86,7 @@ impl Found {
 
 // What the system answered, with `None` where it says that there is no such file.
 pub(crate) fn present<T>(outcome: io::Result<T>) -> io::Result<Option<T>>
-    ensures value { IfOk outcome (λ value. result ≡ Ok (Some value)) }
-    ensures absent { IfErr outcome (λ error.
-        error_kind error ≡ ErrorKind.NotFound → result ≡ Ok None) }
-    ensures error { IfErr outcome (λ error.
-        error_kind error ≢ ErrorKind.NotFound → result ≡ Err error) }
+    ensures { IsPresent outcome result }
 {
     match outcome {
         Ok(value) => Ok(Some(value)),
@@ -137,9 +133,7 @@ pub(crate) fn measure(file: &File, faults: &mut FaultCount) -> Result<u64, Faile
 // What the first line of a file names.
 fn named_in<R: Files>(files: &R, list: &str) -> Option<Identity> {
     let mut buffer = [0u8; 4096];
-    let mut file = fs::open(files, list).ok()?;
-    let count = fill(&mut file, &mut buffer).ok()?;
-    let name = str::from_utf8(&buffer[..count]).ok()?.lines().next()?;
+    let name = read_text(files, list, &mut buffer)?.lines().next()?;
     Identity::of(&fs::metadata(files, name).ok()?)
 }
 

@@ -27,22 +27,33 @@ pub(crate) struct Opened {
     pub(crate) can_write: bool,
 }
 
+// Opens a file to write to it, and to read it too where that is asked for.
+fn open_as<R: Files<File = File>>(
+    files: &R,
+    name: &str,
+    create: bool,
+    read: bool,
+) -> io::Result<File> {
+    let mut options = OpenOptions::new();
+    options.write(true);
+    options.create(create);
+    options.read(read);
+    options.open(files, name)
+}
+
 // Opens a file to change it, and says whether it may be read too.
 fn open_to_change<R: Files<File = File>>(
     files: &R,
     name: &str,
     create: bool,
 ) -> io::Result<(File, bool)> {
-    let mut options = OpenOptions::new();
-    options.write(true).create(create);
-    match options.read(true).open(files, name) {
+    match open_as(files, name, create, true) {
         Ok(file) => Ok((file, true)),
         Err(error) => {
             if error.kind() != ErrorKind::PermissionDenied {
                 return Err(error);
             }
-            let file = options.read(false).open(files, name)?;
-            Ok((file, false))
+            Ok((open_as(files, name, create, false)?, false))
         }
     }
 }
@@ -227,6 +238,25 @@ impl Opened {
         Ok(())
     }
 
+    // Cuts the file to a length, where it is longer.
+    pub(crate) fn cut<R: Files>(
+        &mut self,
+        files: &R,
+        name: &str,
+        len: u64,
+        faults: &mut FaultCount,
+    ) -> Result<(), Failed>
+        ensures most { OnOk result (self.new.len ≤ len) }
+        ensures counted { Counts faults.old faults.new (is_err result) }
+    {
+        self.confirm(files, name, faults)?;
+        if self.len <= len {
+            return Ok(());
+        }
+        self.shorten(files, name, len, faults)?;
+        Ok(())
+    }
+
     // Whether the file begins as an error correction file. One that may not be read doesn't.
     pub(crate) fn begins_as_ecc(&self, faults: &mut FaultCount) -> Result<bool, Failed>
         ensures { Counts faults.old faults.new (is_err result) }
@@ -236,6 +266,6 @@ impl Opened {
         }
         let mut first = [0u8; 12];
         let count = faults.settle(fill(&mut Place::new(&self.file, 0), &mut first))?;
-        Ok(count == 12 && first == *COOKIE)
+        Ok(count == 12 && &first == COOKIE)
     }
 }

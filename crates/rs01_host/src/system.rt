@@ -70,7 +70,7 @@ impl<R: Files<File = File> + AllocGlobal + Drop> System<R> {
         self.names.reserve(names.len())?;
         self.kept.reserve(names.len())?;
         for name in names {
-            self.names.push(name.clone()?)?;
+            self.add_name(name.as_str())?;
         }
         Ok(())
     }
@@ -294,12 +294,7 @@ impl<R: Files<File = File> + AllocGlobal + Drop> System<R> {
         let Some(place) = self.open_to_change(name, false, faults)? else {
             return Ok(());
         };
-        self.kept[place].opened.confirm(&self.files, name, faults)?;
-        if len < self.kept[place].opened.len {
-            self.kept[place]
-                .opened
-                .shorten(&self.files, name, len, faults)?;
-        }
+        self.kept[place].opened.cut(&self.files, name, len, faults)?;
         Ok(())
     }
 }
