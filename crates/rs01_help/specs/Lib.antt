@@ -4,6 +4,7 @@ pub mod Pages
 pub mod Topics
 pub mod Faulty
 pub mod Reading
+pub mod Picture
 pub mod Heads
 pub mod Hints
 pub mod Progress

@@ -1,5 +1,5 @@
 //! A sink that keeps the first bytes of each line.
-ghost use Rattle.std.specs.Prelude.{◌≡◌, [], is_err};
+ghost use Rattle.std.specs.Prelude.{◌≡◌, ◌≤◌, [], is_err, length};
 ghost use Rattle.rs01_outside.specs.SinkState.{Puts};
 ghost use Rattle.rs01_help.specs.Heads.{is_kept, next_column, with_byte, with_bytes, with_kept};
 
@@ -114,7 +114,8 @@ impl<S: Sink + Drop> Noted<S> {
 
     /// The first bytes of the lines that were put: at most 96 of each line, and 2,048 in all.
     pub fn heads(&self) -> &[u8]
-        ensures { result.now ≡ self.now.kept.bytes }
+        ensures heads { result.now ≡ self.now.kept.bytes }
+        ensures most { length result.now ≤ 2048 }
     {
         &self.kept.bytes[..self.kept.used]
     }

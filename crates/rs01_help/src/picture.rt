@@ -1,9 +1,13 @@
 //! A picture of the image: a line of cells, each of which stands for neighbouring sectors.
 //!
-//! It is drawn from the lines of a report. No clause says what it shows; tests do.
-ghost use Rattle.std.specs.Prelude.{◌<◌};
+//! It is drawn from the lines of a report. The clauses say for which reports nothing is put, and how a sink is left; none
+//! says what the picture shows. Tests do.
+ghost use Rattle.std.specs.Prelude.{◌≡◌, ◌<◌, [], IfOk, IsTrue, List, is_err, not, string_bytes, ℕ};
+ghost use Rattle.rs01_outside.specs.SinkState.{Puts};
+ghost use Rattle.rs01_report.specs.Puts.{PutsText};
+ghost use Rattle.rs01_help.specs.Picture.{has_lists};
 
-use rs01_outside::Sink;
+use rs01_outside::{Failed, Sink};
 use rs01_report::PutRefusal;
 use std::alloc::{AllocError, Global};
 
@@ -117,12 +121,19 @@ impl Cells {
 }
 
 // Whether a report has lists of sectors by the whole image.
-fn has_lists(report: &str) -> bool {
-    report.starts_with("checked ") || report.starts_with("scanned ") || report.starts_with("read ")
+#[tactic(auto, unfolding(crate::specs::Picture::has_lists))]
+fn has_lists(report: &str) -> bool
+    ensures { result ≡ has_lists report.now }
+{
+    let bytes = report.as_bytes();
+    bytes.starts_with(b"checked ") || bytes.starts_with(b"scanned ") || bytes.starts_with(b"read ")
 }
 
 // The picture of a report, and nothing where all is good or the report has no lists.
-fn picture_of(alloc: Global, report: &str) -> Result<String, AllocError> {
+fn picture_of(alloc: Global, report: &str) -> Result<String, AllocError>
+    ensures { IsTrue (not (has_lists report.now))
+        → IfOk result (λ text. string_bytes text ≡ []) }
+{
     let mut text = String::new(alloc);
     let Some(sectors) = sectors_in(report) else {
         return Ok(text);
@@ -142,16 +153,28 @@ fn picture_of(alloc: Global, report: &str) -> Result<String, AllocError> {
     Ok(text)
 }
 
+// Puts a text, and asks nothing of the sink where it has no bytes.
+fn put_some<S: Sink>(text: &str, out: &mut S) -> Result<(), Failed>
+    ensures { Puts (S.state out.old) (S.state out.new) text.now (is_err result) }
+{
+    if text.is_empty() {
+        return Ok(());
+    }
+    out.put(text.as_bytes())
+}
+
 /// Puts a picture of the image by the report of `verify`, `scan` or `read`: a sign for each part of
 /// it, and what the signs mean. Nothing where all is good.
 ///
 /// A point stands where nothing is lost and nothing had to be restored, `+` where what was lost was
 /// restored. Else something of the part is lost, and the sign is that of the first that fits: `#`
 /// where a sector is missing or unreadable, `x` where one is altered, `?` where none was asked for.
-pub fn put_picture<S: Sink>(alloc: Global, report: &str, out: &mut S) -> Result<(), PutRefusal> {
+pub fn put_picture<S: Sink>(alloc: Global, report: &str, out: &mut S) -> Result<(), PutRefusal>
+    ensures text { (text : List ℕ) × PutsText (S.state out.old) (S.state out.new) text result }
+    ensures none { IsTrue (not (has_lists report.now))
+        → PutsText (S.state out.old) (S.state out.new) [] result }
+{
     let text = picture_of(alloc, report)?;
-    if !text.is_empty() {
-        out.put(text.as_bytes())?;
-    }
+    put_some(text.as_str(), out)?;
     Ok(())
 }
