@@ -1,5 +1,5 @@
 -- The end of a reading by turns: what is left and told of it, and what is left where it stops.
-use Rattle.std.proofs.Common.{inl, inr, ◌≡◌, ℕ, ◌+◌, ◌-◌, ◌*◌, ◌/◌, ◌^◌, ◌<◌, ◌≤◌, ⊎_elim, List, length, take, get_or, refl, sym, ap, subst, ◌∙◌, arith, append-nil}
+use Rattle.std.proofs.Common.{inl, inr, ◌≡◌, ℕ, ◌+◌, ◌-◌, ◌*◌, ◌/◌, ◌^◌, ◌⊎◌, ◌<◌, ◌≤◌, ⊎_elim, List, length, take, get_or, refl, sym, ap, subst, ◌∙◌, arith, append-nil}
 use Rattle.std.specs.Prelude.{◌&&◌, Bool, true, false, not, if◌then◌else◌, IsSomeAnd, Option, Some, None, filter, is_none, is_some, slice_get}
 use Rattle.std.specs.List.{flat_map, range_with_len}
 use Rattle.std.specs.Option.{option_map_or, unwrap_or}
@@ -31,7 +31,7 @@ use Rattle.rs01_turns.proofs.Leading.{look-leads}
 use Rattle.rs01_turns.proofs.Stopping.{where-stopped}
 use Rattle.rs01_turns.proofs.Times.{ends-all}
 use Rattle.rs01_adaptive.specs.Noting.{flag_of, is_among, sectors_among, told_of}
-use Rattle.rs01_adaptive.specs.Outcome.{IsBetween, IsLeftAt, IsOfThree, IsReadInto}
+use Rattle.rs01_adaptive.specs.Outcome.{IsBetween, IsLeftAt, IsReadInto}
 use Rattle.rs01_adaptive.specs.Sights.{IsFinished, Sight, Stands, block_so_far, fate_by}
 use Rattle.rs01_adaptive.specs.Whole.{Whole, block_left, end_in, fate_in, fates_in, good_block, image_left, is_lost_in, is_open_in, is_restored_in, known_in, report_of, restored_block, sector_left, start_in, terms_in}
 use Rattle.rs01_adaptive.proofs.Ends.{fate_ends, lost_ends}
@@ -191,7 +191,8 @@ left-part w s sized fills below =
     ∙ append-nil (sector_left w s)
 
 -- a byte of the image
-byte-inside : (w : Whole) (m : Moment) (k : ℕ) → Sized (known_in w) → Fills (known_in w) (sector_left w) → IsOnTheWay w m → k < image_len (known_in w) → IsOfThree w.image (marked (known_in w) w.image) (image_left w) (image_at m) k
+byte-inside : (w : Whole) (m : Moment) (k : ℕ) → Sized (known_in w) → Fills (known_in w) (sector_left w) → IsOnTheWay w m → k < image_len (known_in w)
+    → (get_or (image_at m) k 0 ≡ get_or (marked (known_in w) w.image) k 0) ⊎ (get_or (image_at m) k 0 ≡ get_or (image_left w) k 0)
 byte-inside w m k sized fills way inside =
     let known = known_in w in
     let s = k / 2048 in
@@ -200,17 +201,9 @@ byte-inside w m k sized fills way inside =
     let here : get_or (bytes_at m s) (k - 2048 * s) 0 ≡ get_or (image_at m) k 0 =
     ap (λ (t : Terms). get_or (part (image_at m) (2048 * s) (width t.known s)) (k - 2048 * s) 0) way.terms_are ∙ at (image_at m) in
     ⊎_elim
-    (λ one. inr (inl (sym here ∙ one ∙ at (marked known w.image))))
-    (λ other. inr (inr (sym here ∙ other ∙ sym (ap (λ (xs : List ℕ). get_or xs (k - 2048 * s) 0) (left-part w s sized fills of.below)) ∙ at (image_left w))))
+    (λ one. inl (sym here ∙ one ∙ at (marked known w.image)))
+    (λ other. inr (sym here ∙ other ∙ sym (ap (λ (xs : List ℕ). get_or xs (k - 2048 * s) 0) (left-part w s sized fills of.below)) ∙ at (image_left w)))
     (way.mixed s of.below (k - 2048 * s))
-
-byte-of-three : (w : Whole) (m : Moment) (k : ℕ) → Sized (known_in w) → Fills (known_in w) (sector_left w) → IsOnTheWay w m → IsOfThree w.image (marked (known_in w) w.image) (image_left w) (image_at m) k
-byte-of-three w m k sized fills way =
-    let known = known_in w in
-    ⊎_elim
-    (λ inside. byte-inside w m k sized fills way inside)
-    (λ past. inl (sym (byte_past (image_at m) (image_len known) k past) ∙ ap (λ (xs : List ℕ). get_or xs (k - image_len known) 0) way.surplus ∙ byte_past w.image (image_len known) k past))
-    (cases_lt k (image_len known))
 
 -- the drives were asked for some first sectors, and the image file is on the way
 pub is_left_at :
@@ -225,6 +218,6 @@ is_left_at w m before sized fills way on tell long =
           let grew = on k first one start was in
           let rest = part_of.asked k one one other was was (ap (λ (r : Reading). slice_get r.views k) way.end_is ∙ is) in
           record { done = grew.0; more = rest.more; sofar_is = grew.1; all_is = rest.all_is };
-      file_is = inr (subst (λ (o : Option (List ℕ)). IsSomeAnd o (IsBetween w)) (sym (image_there (known_in w) (m.desk.files m.setting.image) sized long))
-          (record { longer = way.longer; surplus = way.surplus; bytes = λ k below. byte-of-three w m k sized fills way }));
+      file_is = inr (subst (λ (o : Option (List ℕ)). IsSomeAnd o (IsBetween w (marked (known_in w) w.image) (image_left w))) (sym (image_there (known_in w) (m.desk.files m.setting.image) sized long))
+          (record { longer = way.longer; surplus = way.surplus; bytes = λ k below inside. byte-inside w m k sized fills way inside }));
     }

@@ -83,11 +83,11 @@ mixed_byte n one other k below longer =
     ∙ ap (λ i. get_or other i 0) (let e : n + (k - n) ≡ k = omega (arith, late) in e)))
     (cases_lt k n)
 
-between : (w : Whole) (n : ℕ) → Sized (known_in w) → IsBetween w (mixed n (marked (known_in w) w.image) w.image)
+between : (w : Whole) (n : ℕ) → Sized (known_in w) → IsBetween w w.image (marked (known_in w) w.image) (mixed n (marked (known_in w) w.image) w.image)
 between w n sized = record {
   longer = (spares_marked (known_in w) w.image n sized).longer;
   surplus = (spares_marked (known_in w) w.image n sized).surplus;
-  bytes = λ k below. ⊎_elim (λ same. inl same) (λ one. inr (inl one)) (mixed_byte n (marked (known_in w) w.image) w.image k below (marked_longer (known_in w) w.image sized));
+  bytes = λ k below inside. mixed_byte n (marked (known_in w) w.image) w.image k below (marked_longer (known_in w) w.image sized);
 }
 
 -- no drive was asked
@@ -105,10 +105,13 @@ left_here w views before file sized same left = record {
         sofar_is = ap (λ (v : DriveView). v.asked) (same-drive w.views k first one start here) ∙ sym (append-nil first.asked);
         all_is = on.asked;
       };
-  file_is = elim left [
-    | inl kept ↦ inl kept
-    | inr mix ↦ inr (subst (λ (o : Option (List ℕ)). IsSomeAnd o (IsBetween w)) (sym mix.1) (between w mix.0 sized))
-  ];
+  file_is = inl (record {
+    views_are = sym same;
+    file_is = elim left [
+      | inl kept ↦ inl kept
+      | inr mix ↦ inr (subst (λ (o : Option (List ℕ)). IsSomeAnd o (IsBetween w w.image (marked (known_in w) w.image))) (sym mix.1) (between w mix.0 sized))
+    ];
+  });
 }
 
 -- the image file wasn't got ready

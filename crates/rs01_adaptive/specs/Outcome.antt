@@ -34,22 +34,25 @@ pub record IsReadInto (old new : RackState) (file : Option (List ℕ)) (told : R
   -- the rack's count of asks rose by as many as the drives' lists of asks show more
   pub asks : CountsAsks old new
 
--- each byte is the old one, or that of the marked file, or that of the file that is left at the end
-abbrev pub IsOfThree : (old marked left file : List ℕ) → ℕ → Type 0
-IsOfThree old marked left file k =
-    (slice_index file k ≡ slice_index old k) ⊎ ((slice_index file k ≡ slice_index marked k) ⊎ (slice_index file k ≡ slice_index left k))
-
--- a file that isn't shorter than the old one, is made of those, and has the old one's bytes behind the image and no others
-pub record IsBetween (w : Whole) (file : List ℕ) : Type 0 where
+-- a file that isn't shorter than the old one and has the old one's bytes behind the image, of which each byte is that of one
+-- of two files
+pub record IsBetween (w : Whole) (one other : List ℕ) (file : List ℕ) : Type 0 where
   pub longer : length w.image ≤ length file
   pub surplus : drop (image_len (known_in w)) file ≡ drop (image_len (known_in w)) w.image
-  pub bytes : (k : ℕ) → k < length file → IsOfThree w.image (marked (known_in w) w.image) (image_left w) file k
+  pub bytes : (k : ℕ) → k < length file → k < image_len (known_in w)
+      → (slice_index file k ≡ slice_index one k) ⊎ (slice_index file k ≡ slice_index other k)
 
--- it wasn't: from the start on the drives were asked for some first sectors, and the image file is as it was or on the way
+-- no drive was asked: the image file is as it was, or each byte is the old one or that of the marked file
+pub record IsUnasked (drives : List DriveView) (before file : Option (List ℕ)) (w : Whole) : Type 0 where
+  pub views_are : drives ≡ w.views
+  pub file_is : (file ≡ before) ⊎ IsSomeAnd file (IsBetween w w.image (marked (known_in w) w.image))
+
+-- it wasn't: from the start on the drives were asked for some first sectors. As long as they were for none, markers may be
+-- on their way into the image file; afterwards each byte is that of the marked file or of the file that is left at the end
 pub record IsLeftAt (drives : List DriveView) (before file : Option (List ℕ)) (w : Whole) : Type 0 where
   pub number : length drives ≡ length w.views
   pub asked : AllAskedPart w.views drives (end_in w).views
-  pub file_is : (file ≡ before) ⊎ IsSomeAnd file (IsBetween w)
+  pub file_is : IsUnasked drives before file w ⊎ IsSomeAnd file (IsBetween w (marked (known_in w) w.image) (image_left w))
 
 -- what a reading leaves and answers, where the desk and the drives tell
 abbrev pub Reads : Option (Option (List ℕ)) → ℕ → (old new : RackState) → (before file : Option (List ℕ)) → Result ReadReport ReadRefusal → Type 0

@@ -1,11 +1,8 @@
 //! What a reading by turns comes to.
 ghost use Rattle.std.specs.Prelude.{◌≡◌, ◌<◌, ◌^◌, length};
 ghost use Rattle.rs01_linear.specs.Racks.{seen_by};
-ghost use Rattle.rs01_linear.specs.declared.prepared.Prepared.{Prepared};
-ghost use Rattle.rs01_outside.specs.DeskState.{DeskState};
-ghost use Rattle.rs01_rack.specs.Rack.{RackState};
-ghost use Rattle.rs01_adaptive.specs.Beginning.{IsWorked};
-ghost use Rattle.rs01_adaptive.specs.Preparing.{EndsAs, ReadsReady, refusal_by};
+ghost use Rattle.rs01_adaptive.specs.Beginning.{Finishes};
+ghost use Rattle.rs01_adaptive.specs.Preparing.{EndsAs, refusal_by};
 
 use crate::noting::Noted;
 use crate::telling::told_of;
@@ -51,10 +48,8 @@ pub fn finish(
     ended: Result<(), WindowStop<Stop>>,
 ) -> Result<ReadReport, ReadRefusal>
     requires { length course.now.fates < 2 ^ 32 }
-    ensures { let now = seen_by ⟦<dyn Drive as Drive>⟧ rack.now in
-        (prepared : Prepared) (before after : DeskState) (old : RackState)
-        → IsWorked setup.now prepared size asks before after course.now noted.now ended old now
-        → ReadsReady setup.now prepared before after result old now }
+    ensures { Finishes setup.now size asks course.now noted.now ended result
+        (seen_by ⟦<dyn Drive as Drive>⟧ rack.now) }
 {
     match ended_as(ended) {
         Ok(()) => {}
