@@ -47,7 +47,7 @@ stays (Some why) header old new e = e
 may : (image ecc : List ℕ) (r : ℕ) (old new : DeskState) → (IsTrue old.tells → SameElsewhere ecc old.files new.files)
     → ((rack : RackState) → IsTrue old.tells → LeavesUnder image ecc r old.files new.files ⊎ IsWhole image ecc r (told_by old rack) (told_by new rack))
     → MayLeave (create_work image ecc r) old new
-may image ecc r old new elsewhere left = record { stands = λ rack d. record { elsewhere = elsewhere d; left = left rack d }; keeps = elsewhere }
+may image ecc r old new elsewhere left = record { stands = λ rack d. record { elsewhere = elsewhere d; left = left rack d }; keeps = λ rack out out'. elsewhere }
 
 -- the file was made
 made : (image ecc : List ℕ) (r : ℕ) (old new : DeskState) (out out' : SinkState) (report : CreateReport) (status : ℕ)
@@ -56,7 +56,7 @@ made : (image ecc : List ℕ) (r : ℕ) (old new : DeskState) (out out' : SinkSt
     → Ends (create_lines report ecc) 0 out out' status
     → RunsAlone (create_work image ecc r) old new out out' status
 made image ecc r old new out out' report status works is ends =
-    done (create_work image ecc r) ecc old new out out' (create_lines report ecc) 0 status (not_of_words image ecc r) (inl refl) works
+    done (create_work image ecc r) ecc old new out out' (create_lines report ecc) 0 status (not_of_words image ecc r) refl (inl refl) works
     (λ rack d. ap (λ (o : Option CreateRefusal). fault_if create_fault o) (is d).accepted)
     (λ rack d. record { files = (is d).file; lines = ap (λ (p : CreateReport). create_lines p ecc) (is d).told; number = refl })
     (may image ecc r old new works.elsewhere (λ rack d. inr (record { accepted = (is d).accepted; whole = (is d).file.there })))

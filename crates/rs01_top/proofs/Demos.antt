@@ -1,5 +1,5 @@
 -- What holds of a run that shows what the codec does, by how the work and the last text ended.
-use Rattle.std.proofs.Common.{◌≡◌, ℕ, refl, subst, ap, inr, Bool, true, false}
+use Rattle.std.proofs.Common.{◌≡◌, ℕ, refl, sym, subst, ap, inr, Bool, true, false}
 use Rattle.std.specs.Prelude.{IsTrue, IsOkAnd, Result, Ok, Err, if◌then◌else◌}
 use Rattle.rs01_outside.specs.DeskState.{DeskState}
 use Rattle.rs01_outside.specs.Files.{Files}
@@ -26,7 +26,7 @@ use Rattle.rs01_top.specs.Demo.{HasDemonstrated, MayStandAfterDemo, work_of_plan
 use Rattle.rs01_top.specs.Faults.{demo_fault}
 use Rattle.rs01_top.specs.Outside.{Outside, told_by, world}
 use Rattle.rs01_top.specs.Run.{Ends, RunsAlone}
-use Rattle.rs01_top.proofs.Endings.{NotOfWords, done_by, not_asked, out_of_memory_by, read_failed_by, refused_by, write_failed_by}
+use Rattle.rs01_top.proofs.Endings.{NotOfWords, done_by, not_asked, not_false, out_of_memory_by, read_failed_by, refused_by, some_none, write_failed_by}
 use Rattle.rs01_top.proofs.HeadFaults.{absent_is, head_is}
 use Rattle.rs01_top.proofs.Verifies.{none_or_one}
 
@@ -71,10 +71,10 @@ shown_so : (plan : Plan) (old new : DeskState) (out out' : SinkState) (shown : D
 shown_so plan old new out out' shown status works is ends = λ rack.
     done_by (work_of_plan plan) (world old rack out) (world new rack out') (demo_lines shown.report) (status_for shown.whole) status
     (not_of_words plan) (none_or_one shown.whole (status_for shown.whole) refl) (not_asked (work_of_plan plan) rack) works.counts
-    (λ d. refl)
+    (λ why e t three. some_none why (sym e)) (λ d. refl)
     (λ d. told_of (outcome plan) plan (told_by old rack) (told_by new rack) shown (after plan rack old new shown d.0 works (is d.0)) (is d.0))
     (record { stands = λ d. after plan rack old new shown d.0 works (is d.0); keeps = works.elsewhere })
-    ends
+    (λ u. absurd (not_false u)) ends
 
 -- a refusal, which no desk that tells its files gives
 not_told : (plan : Plan) (old new : DeskState) (out out' : SinkState) (why : Fault) (status : ℕ)
@@ -84,7 +84,7 @@ not_told : (plan : Plan) (old new : DeskState) (out out' : SinkState) (why : Fau
 not_told plan old new out out' why status three works never ends = λ rack.
     refused_by (work_of_plan plan) (world old rack out) (world new rack out') why status (not_of_words plan) three
     (not_asked (work_of_plan plan) rack) works.counts
-    (λ d. absurd (never d.0)) (λ t. absurd (never t)) (λ d. absurd (never d.0))
+    (λ t. absurd (never t)) (λ t. absurd (never t)) (λ d. absurd (never d.0))
     (record { stands = λ d. absurd (never d.0); keeps = works.elsewhere }) ends
 
 stands : (plan : Plan) (old new : DeskState) (reading writing : Bool) (why : DemoRefusal) (rack : RackState)

@@ -15,11 +15,12 @@ use Rattle.rs01_report.specs.declared.puts.PutRefusal.TheVariants.{SinkFault, Ou
 use Rattle.rs01_report.specs.Faults.{fault_line, status_of}
 use Rattle.rs01_report.specs.Puts.{PutsText}
 use Rattle.rs01_linear.specs.Lasting as lasting
+use Rattle.rs01_linear.specs.Medium.{Numbered}
 use Rattle.rs01_linear.proofs.LastingLemmas.{same_lasts}
 use Rattle.rs01_rack.specs.Rack.{RackState}
 use Rattle.rs01_top.specs.Outside.{Outside, World, outside_of, world}
 use Rattle.rs01_top.specs.Work.{Answers, AnswersBy, Work, no_work}
-use Rattle.rs01_top.specs.Run.{Begins, Ends, IsKnown, IsRefusal, IsRun, IsSettled, NothingRose, RackLasts, HasDriveCause, Tells, ended}
+use Rattle.rs01_top.specs.Run.{Begins, Ends, IsKnown, IsKnownFor, IsRefusal, IsRun, IsSettled, NothingRose, RackLasts, HasDriveCause, Tells, ended}
 
 -- how the last text of a run was put, which was to end with a status that is not 6 or 7
 record IsTold (line : List ℕ) (wanted : ℕ) (out out' : SinkState) (status : ℕ) : Type 0 where
@@ -89,11 +90,18 @@ unsettled : (s : ℕ) → IsSettled s → (s ≡ 4) ⊎ (s ≡ 6) ⊎ (s ≡ 7) 
 unsettled s h r = grind arith
 
 -- a status that a refusal by words, files or drives has
-refusal_settled : (s : ℕ) (P : Type 0) → (s ≡ 2) ⊎ (P × ((s ≡ 3) ⊎ (s ≡ 5))) → IsSettled s
-refusal_settled s P h = ⊎_elim (λ two. inr (inr (inl two))) (λ p. inr (inr (inr p.1))) h
+refusal_settled : (s : ℕ) → IsRefusal s → IsSettled s
+refusal_settled s h = inr (inr h)
+
+-- a status as it was wanted
+settled_low : (s : ℕ) → (s ≡ 0) ⊎ (s ≡ 1) → IsSettled s
+settled_low s h = ⊎_elim (λ none. inl none) (λ one. inr (inl one)) h
 
 not_two : (s : ℕ) → (s ≡ 3) ⊎ (s ≡ 5) → s ≡ 2 → ⊥
 not_two s h e = grind arith
+
+not_done : (s : ℕ) → (s ≡ 3) ⊎ (s ≡ 5) → (s ≡ 0) ⊎ (s ≡ 1) → ⊥
+not_done s h low = grind arith
 
 three_or_five : (s k : ℕ) → (s ≡ 3) ⊎ (s ≡ 5) → s ≡ k → 6 ≤ k → ⊥
 three_or_five s k h e most = grind arith
@@ -101,7 +109,7 @@ three_or_five s k h e most = grind arith
 pub some_same : (x y : Fault) → Some x ≡ Some y → x ≡ y
 some_same x y e = cc
 
-some_none : (x : Fault) → Some x ≡ None → ⊥
+pub some_none : (x : Fault) → Some x ≡ None → ⊥
 some_none x e = cc
 
 low : (n k : ℕ) → (n ≡ 0) ⊎ (n ≡ 1) → n ≡ k → 2 ≤ k → ⊥
@@ -110,7 +118,7 @@ low n k range e most = grind arith
 not_low : (n : ℕ) → (n ≡ 0) ⊎ (n ≡ 1) → IsRefusal n → ⊥
 not_low n range h = grind arith
 
-not_false : IsTrue false → ⊥
+pub not_false : IsTrue false → ⊥
 not_false h = cc
 
 not_some : (o : Option Fault) → o ≡ None → IsSome o → ⊥
@@ -164,21 +172,49 @@ not_asked work rack = record { lasts = rack_stays rack; unused = λ h. refl }
 -- what the work leaves, by what is known
 pub record Leaves (work : Work) (old new : World) : Type 0 where
   pub stands : IsKnown work old new → work.may_stand (outside_of old) (outside_of new)
-  pub keeps : IsTrue old.desk.tells → work.keeps old.desk.files new.desk.files
+  pub keeps : IsTrue old.desk.tells → work.keeps old new
+
+-- no file refuses the work, where the desk tells
+abbrev pub NoFileRefuses : Work → World → Type 0
+NoFileRefuses work old = (why : Fault) → work.refusal (outside_of old) ≡ Some why → IsTrue old.desk.tells → status_of why ≡ 3 → ⊥
+
+-- it was found that nothing refuses it, where this is known
+found_none : (work : Work) (old new : World) (why : Fault) → NotOfWords work → NoFileRefuses work old
+    → (IsKnown work old new → work.refusal (outside_of old) ≡ None) → work.refusal (outside_of old) ≡ Some why
+    → IsKnownFor work old new (status_of why) → ⊥
+found_none work old new why words fits none e known =
+    ⊎_elim (λ two. words (outside_of old) why e two) (⊎_elim (λ p. fits why e p.0 p.1) (λ d. some_none why (sym e ∙ none d))) known
+
+-- what is known of a refusal by files or drives
+abbrev pub KnownFirst : Work → World → World → Fault → Type 0
+KnownFirst work old new why = ((IsTrue old.desk.tells × (status_of why ≡ 3)) ⊎ IsKnown work old new) → work.refusal (outside_of old) ≡ Some why
+
+-- each refusal that is known is this one
+only_this : (work : Work) (old new : World) (why other : Fault) → NotOfWords work → KnownFirst work old new why
+    → (status_of why ≡ 5 → NoFileRefuses work old) → (status_of why ≡ 3) ⊎ (status_of why ≡ 5)
+    → work.refusal (outside_of old) ≡ Some other → IsKnownFor work old new (status_of other) → status_of other ≡ status_of why
+only_this work old new why other words first fits number e known =
+    ⊎_elim
+    (λ two. absurd (words (outside_of old) other e two))
+    (⊎_elim
+    (λ p. ⊎_elim (λ three. p.1 ∙ sym three) (λ five. absurd (fits five other e p.0 p.1)) number)
+    (λ d. ap status_of (some_same other why (sym e ∙ first (inr d)))))
+    known
 
 -- the work ended without a fault, and this is its text with its status
 settled : (work : Work) (old new : World) (line : List ℕ) (wanted status : ℕ)
     → IsSettled wanted → OfRack work old.rack new.rack → CountsFaults old.desk new.desk false false
     → (IsKnown work old new → Answers work (outside_of old) (outside_of new) line wanted)
     → Leaves work old new
-    → ((why : Fault) → work.refusal (outside_of old) ≡ Some why → (status_of why ≡ 2) ⊎ IsKnown work old new → status_of why ≡ wanted)
-    → ((wanted ≡ 2) ⊎ (IsKnown work old new × ((wanted ≡ 3) ⊎ (wanted ≡ 5))) → Refusing work (outside_of old) line wanted)
+    → ((why : Fault) → work.refusal (outside_of old) ≡ Some why → IsKnownFor work old new (status_of why) → status_of why ≡ wanted)
+    → (IsRefusal wanted → IsKnownFor work old new wanted → Refusing work (outside_of old) line wanted)
     → (wanted ≡ 5 → RefusingDrives work old.rack new.rack line)
     → ((why : Fault) → work.refusal (outside_of old) ≡ Some why → status_of why ≡ 2 → line ≡ fault_line why)
     → (IsRefusal wanted → IsTrue old.desk.tells → new.desk.files ≡ old.desk.files)
+    → ((wanted ≡ 0) ⊎ (wanted ≡ 1) → IsTrue work.uses_drives → (n : ℕ) × Numbered n old.rack new.rack)
     → IsTold line wanted old.out new.out status
     → IsRun work old new status
-settled work old new line wanted status w rack works answer left refusing only drives of_words same_files put =
+settled work old new line wanted status w rack works answer left refusing only drives of_words same_files numbered put =
     let rest : NothingRose old.desk new.desk = (works.read_kept refl, works.write_kept refl) in
     record {
       lasts = record {
@@ -200,11 +236,9 @@ settled work old new line wanted status w rack works answer left refusing only d
         refused = λ t h. same_files (subst IsRefusal (same_settled status wanted (inr (inr h)) put.range) h) t;
       };
       range = ⊎_elim (λ e. inl (subst IsSettled (sym e) w)) (λ e. inr (inr e)) put.range;
-      only_refused = λ h.
-          let same : status ≡ wanted = same_settled status wanted (refusal_settled status _ h) put.range in
-          let it = only (⊎_elim
-          (λ two. inl (sym same ∙ two))
-          (λ p. inr (p.0, ⊎_elim (λ three. inl (sym same ∙ three)) (λ five. inr (sym same ∙ five)) p.1)) h) in
+      only_refused = λ h known.
+          let same : status ≡ wanted = same_settled status wanted (refusal_settled status h) put.range in
+          let it = only (subst IsRefusal same h) (subst (IsKnownFor work old new) same known) in
           record {
             why = it.why;
             first = it.first;
@@ -227,6 +261,7 @@ settled work old new line wanted status w rack works answer left refusing only d
         output = put.cause;
         memory = λ seven. begun_none old.out new.out (fault_line fault.OutOfMemory) (put.nothing seven);
       };
+      numbered = λ h. numbered (subst (λ s. (s ≡ 0) ⊎ (s ≡ 1)) (same_settled status wanted (settled_low status h) put.range) h);
       quiet = record {
         no_work = λ why e two. rest;
         no_writes = λ h. works.write_kept refl;
@@ -239,78 +274,83 @@ settled work old new line wanted status w rack works answer left refusing only d
 -- the work was done, on whatever files
 pub done_by : (work : Work) (old new : World) (line : List ℕ) (wanted status : ℕ)
     → NotOfWords work → (wanted ≡ 0) ⊎ (wanted ≡ 1) → OfRack work old.rack new.rack → CountsFaults old.desk new.desk false false
+    → NoFileRefuses work old
     → (IsKnown work old new → work.refusal (outside_of old) ≡ None)
     → (IsKnown work old new → work.done (outside_of old) (outside_of new) line wanted)
     → Leaves work old new
+    → (IsTrue work.uses_drives → (n : ℕ) × Numbered n old.rack new.rack)
     → Ends line wanted old.out new.out status
     → IsRun work old new status
-done_by work old new line wanted status words range rack works none did left ends =
+done_by work old new line wanted status words range rack works fits none did left numbered ends =
     settled work old new line wanted status (⊎_elim (λ e. inl e) (λ e. inr (inl e)) range) rack works
     (λ d. subst (λ (o : Option Fault). AnswersBy o work.done (outside_of old) (outside_of new) line wanted) (sym (none d)) (did d))
     left
-    (λ why e known. absurd (⊎_elim (λ two. words (outside_of old) why e two) (λ d. some_none why (sym e ∙ none d)) known))
-    (λ h. absurd (⊎_elim
-    (λ two. low wanted 2 range two (omega arith))
-    (λ p. ⊎_elim (λ three. low wanted 3 range three (omega arith)) (λ five. low wanted 5 range five (omega arith)) p.1)
-    h))
+    (λ why e known. absurd (found_none work old new why words fits none e known))
+    (λ h known. absurd (not_low wanted range h))
     (λ five. absurd (low wanted 5 range five (omega arith)))
     (λ why e two. absurd (words (outside_of old) why e two))
     (λ h t. absurd (not_low wanted range h))
+    (λ h. numbered)
     (told line wanted old.out new.out status (λ e. low wanted 6 range e (omega arith)) (λ e. low wanted 7 range e (omega arith)) ends)
 
 -- on one of them
 pub done : (work : Work) (name : List ℕ) (old new : World) (line : List ℕ) (wanted status : ℕ)
     → NotOfWords work → (wanted ≡ 0) ⊎ (wanted ≡ 1) → OfRack work old.rack new.rack → WorksOn name old.desk new.desk false false
+    → NoFileRefuses work old
     → (IsKnown work old new → work.refusal (outside_of old) ≡ None)
     → (IsKnown work old new → work.done (outside_of old) (outside_of new) line wanted)
     → Leaves work old new
+    → (IsTrue work.uses_drives → (n : ℕ) × Numbered n old.rack new.rack)
     → Ends line wanted old.out new.out status
     → IsRun work old new status
-done work name old new line wanted status words range rack works none did left ends =
-    done_by work old new line wanted status words range rack (counts name old.desk new.desk false false works) none did left ends
+done work name old new line wanted status words range rack works fits none did left numbered ends =
+    done_by work old new line wanted status words range rack (counts name old.desk new.desk false false works) fits none did left numbered ends
 
 -- files or drives refuse the work
 refused_for : (work : Work) (old new : World) (why : Fault) (status : ℕ)
     → NotOfWords work → (status_of why ≡ 3) ⊎ (status_of why ≡ 5) → OfRack work old.rack new.rack → CountsFaults old.desk new.desk false false
-    → (IsKnown work old new → work.refusal (outside_of old) ≡ Some why)
+    → KnownFirst work old new why
+    → (status_of why ≡ 5 → NoFileRefuses work old)
     → (IsTrue old.desk.tells → new.desk.files ≡ old.desk.files)
     → (IsKnown work old new → (outside_of new).views ≡ (outside_of old).views)
     → Leaves work old new
     → (status_of why ≡ 5 → RefusingDrives work old.rack new.rack (fault_line why))
     → Ends (fault_line why) (status_of why) old.out new.out status
     → IsRun work old new status
-refused_for work old new why status words number rack works first files same left drives ends =
+refused_for work old new why status words number rack works first fits files same left drives ends =
     settled work old new (fault_line why) (status_of why) status (inr (inr (inr number))) rack works
-    (λ d. subst (λ (o : Option Fault). AnswersBy o work.done (outside_of old) (outside_of new) (fault_line why) (status_of why)) (sym (first d))
+    (λ d. subst (λ (o : Option Fault). AnswersBy o work.done (outside_of old) (outside_of new) (fault_line why) (status_of why)) (sym (first (inr d)))
     (record { files = files d.0; views = same d; line = refl; number = refl }))
     left
-    (λ other e known. ⊎_elim (λ two. absurd (words (outside_of old) other e two)) (λ d. ap status_of (some_same other why (sym e ∙ first d))) known)
-    (λ h. ⊎_elim
+    (λ other e known. only_this work old new why other words first fits number e known)
+    (λ h known. ⊎_elim
     (λ two. absurd (not_two (status_of why) number two))
-    (λ p. record { why = why; first = first p.0; number = refl; line_is = refl })
-    h)
+    (λ k. record { why = why; first = first k; number = refl; line_is = refl })
+    known)
     drives
     (λ other e two. absurd (words (outside_of old) other e two))
     (λ h t. files t)
+    (λ h. absurd (not_done (status_of why) number h))
     (told (fault_line why) (status_of why) old.out new.out status
     (λ e. three_or_five (status_of why) 6 number e (omega arith)) (λ e. three_or_five (status_of why) 7 number e (omega arith)) ends)
 
--- the files refuse the work
+-- the files refuse the work, which is known where the desk tells
 pub refused_by : (work : Work) (old new : World) (why : Fault) (status : ℕ)
     → NotOfWords work → status_of why ≡ 3 → OfRack work old.rack new.rack → CountsFaults old.desk new.desk false false
-    → (IsKnown work old new → work.refusal (outside_of old) ≡ Some why)
+    → (IsTrue old.desk.tells → work.refusal (outside_of old) ≡ Some why)
     → (IsTrue old.desk.tells → new.desk.files ≡ old.desk.files)
     → (IsKnown work old new → (outside_of new).views ≡ (outside_of old).views)
     → Leaves work old new
     → Ends (fault_line why) (status_of why) old.out new.out status
     → IsRun work old new status
 refused_by work old new why status words three rack works first files same left ends =
-    refused_for work old new why status words (inl three) rack works first files same left
+    refused_for work old new why status words (inl three) rack works (λ k. ⊎_elim (λ p. first p.0) (λ d. first d.0) k)
+    (λ five. absurd (other_than (status_of why) 3 5 three (λ e. omega arith) five)) files same left
     (λ five. absurd (other_than (status_of why) 3 5 three (λ e. omega arith) five)) ends
 
 pub refused : (work : Work) (name : List ℕ) (old new : World) (why : Fault) (status : ℕ)
     → NotOfWords work → status_of why ≡ 3 → OfRack work old.rack new.rack → WorksOn name old.desk new.desk false false
-    → (IsKnown work old new → work.refusal (outside_of old) ≡ Some why)
+    → (IsTrue old.desk.tells → work.refusal (outside_of old) ≡ Some why)
     → (IsTrue old.desk.tells → new.desk.files ≡ old.desk.files)
     → (IsKnown work old new → (outside_of new).views ≡ (outside_of old).views)
     → Leaves work old new
@@ -323,14 +363,16 @@ refused work name old new why status words three rack works first files same lef
 pub refused_by_drives : (work : Work) (name : List ℕ) (old new : World) (why : Fault) (status : ℕ)
     → NotOfWords work → IsTrue work.uses_drives → status_of why ≡ 5 → HasDriveCause work why old.rack new.rack
     → OfRack work old.rack new.rack → WorksOn name old.desk new.desk false false
+    → NoFileRefuses work old
     → (IsKnown work old new → work.refusal (outside_of old) ≡ Some why)
     → (IsTrue old.desk.tells → new.desk.files ≡ old.desk.files)
     → (IsKnown work old new → (outside_of new).views ≡ (outside_of old).views)
     → Leaves work old new
     → Ends (fault_line why) (status_of why) old.out new.out status
     → IsRun work old new status
-refused_by_drives work name old new why status words used five raised rack works first files same left ends =
-    refused_for work old new why status words (inr five) rack (counts name old.desk new.desk false false works) first files same left
+refused_by_drives work name old new why status words used five raised rack works fits first files same left ends =
+    refused_for work old new why status words (inr five) rack (counts name old.desk new.desk false false works)
+    (λ k. ⊎_elim (λ p. absurd (other_than (status_of why) 5 3 five (λ e. omega arith) p.1)) first k) (λ e. fits) files same left
     (λ e. record { used = used; why = why; number = five; drives_are = raised; line_is = refl }) ends
 
 -- the words refuse it, and nothing is begun
@@ -343,10 +385,11 @@ not_begun why desk rack out out' status two ends =
     (λ d. record { files = refl; views = refl; line = refl; number = refl })
     (record { stands = λ d. refl; keeps = λ t. refl })
     (λ other e known. ap status_of (sym (some_same why other e)))
-    (λ h. record { why = why; first = refl; number = refl; line_is = refl })
+    (λ h known. record { why = why; first = refl; number = refl; line_is = refl })
     (λ five. absurd (other_than (status_of why) 2 5 two (λ e. omega arith) five))
     (λ other e two. ap fault_line (some_same why other e))
     (λ h t. refl)
+    (λ h u. absurd (not_false u))
     (told (fault_line why) (status_of why) out out' status
     (other_than (status_of why) 2 6 two (λ e. omega arith)) (other_than (status_of why) 2 7 two (λ e. omega arith)) ends)
 
@@ -368,7 +411,7 @@ faulted work old new line status words rack tells reads writes left cause still 
   stands = left.stands;
   kept = record { files = left.keeps; refused = λ t h. absurd (unsettled status (inr (inr h)) put.range) };
   range = inr put.range;
-  only_refused = λ h. absurd (unsettled status (refusal_settled status _ h) put.range);
+  only_refused = λ h known. absurd (unsettled status (refusal_settled status h) put.range);
   refused = λ why e known. ⊎_elim (λ four. inr (inr (inr (four, words (outside_of old) why e)))) (⊎_elim (λ s. inr (inl s)) (λ s. inr (inr (inl s)))) put.range;
   cause = record {
     files = λ four. ⊎_elim
@@ -379,6 +422,7 @@ faulted work old new line status words rack tells reads writes left cause still 
     output = put.cause;
     memory = λ seven. begun_none old.out new.out (fault_line fault.OutOfMemory) (put.nothing seven);
   };
+  numbered = λ h. absurd (unsettled status (settled_low status h) put.range);
   quiet = record {
     no_work = λ why e two. absurd (words (outside_of old) why e two);
     no_writes = still;
@@ -484,7 +528,7 @@ run_over work old new status words rack works left over =
       stands = left.stands;
       kept = record { files = left.keeps; refused = λ t h. absurd (unsettled status (inr (inr h)) (inr (inr seven))) };
       range = inr (inr (inr seven));
-      only_refused = λ h. absurd (unsettled status (refusal_settled status _ h) (inr (inr seven)));
+      only_refused = λ h known. absurd (unsettled status (refusal_settled status h) (inr (inr seven)));
       refused = λ why e known. inr (inr (inl seven));
       cause = record {
         files = λ four. absurd (omega (arith, four, seven));
@@ -492,6 +536,7 @@ run_over work old new status words rack works left over =
         output = λ six. absurd (omega (arith, six, seven));
         memory = λ s. over.begun;
       };
+      numbered = λ h. absurd (unsettled status (settled_low status h) (inr (inr seven)));
       quiet = record {
         no_work = λ why e two. absurd (words (outside_of old) why e two);
         no_writes = λ h. works.write_kept refl;

@@ -78,17 +78,17 @@ fixed : (image ecc : List ℕ) (cut : Bool) (old new : DeskState) (out out' : Si
 fixed image ecc cut old new out out' report status works is ends =
     let answer = fix_answer (old.files ecc) (old.files image) cut in
     done (fix_work image ecc cut) image old new out out' (fix_lines report image) (fixed_status report) status
-    (not_of_words image ecc cut) (fixed_range report) works
+    (not_of_words image ecc cut) refl (fixed_range report) works
     (λ rack d. not_refused _ answer (is d))
     (λ rack d. told_of answer image ecc (told_by old rack) (told_by new rack) report (is d))
-    (record { stands = λ rack d. record { elsewhere = works.elsewhere d; left = stood answer image old.files new.files report (is d) }; keeps = works.elsewhere })
+    (record { stands = λ rack d. record { elsewhere = works.elsewhere d; left = stood answer image old.files new.files report (is d) }; keeps = λ rack out out'. works.elsewhere })
     ends
 
 stands : (image ecc : List ℕ) (cut : Bool) (old new : DeskState) (reading writing : Bool) (why : FixRefusal) → WorksOn image old new reading writing
     → (IsTrue old.tells → Refuses image ecc cut old.files new.files why)
     → MayLeave (fix_work image ecc cut) old new
 stands image ecc cut old new reading writing why works is =
-    record { stands = λ rack d. record { elsewhere = works.elsewhere d; left = (is d).left }; keeps = works.elsewhere }
+    record { stands = λ rack d. record { elsewhere = works.elsewhere d; left = (is d).left }; keeps = λ rack out out'. works.elsewhere }
 
 -- the files are refused
 of_files : (image ecc : List ℕ) (cut : Bool) (old new : DeskState) (out out' : SinkState) (why : FixRefusal) (status : ℕ)

@@ -1,12 +1,17 @@
 -- What is known of the refusals of a medium, and of the file that it may be given.
-use Rattle.std.proofs.Common.{◌≡◌, ℕ, List, refl, ap, ◌∙◌, arith, subst, Bor}
-use Rattle.std.specs.Prelude.{IsOkAnd, IsTrue, Option, Some, None, Result, Ok, Err, is_none}
-use Rattle.std.specs.Option.{option_map}
+use Rattle.std.proofs.Common.{◌≡◌, ◌==◌, ◌||◌, if◌then◌else◌, nat_lt, ℕ, Bool, List, true, false, refl, ap, ◌∙◌, arith, subst, Bor}
+use Rattle.std.specs.Prelude.{IsOk, IsOkAnd, IsSomeAnd, IsTrue, Option, Some, None, Result, Ok, Err, is_none}
+use Rattle.std.specs.Option.{ForSome, option_map}
+use Rattle.rs01_outside.specs.DeskState.{DeskState}
+use Rattle.rs01_outside.specs.DriveView.{DriveView}
 use Rattle.rs01_outside.specs.Files.{Files}
+use Rattle.rs01_rack.specs.Counting.{number_of}
+use Rattle.rs01_rack.specs.declared.refusal.RackRefusal.{RackRefusal}
 use Rattle.rs01_rack.specs.declared.refusal.RackRefusal.TheVariants as rack
+use Rattle.rs01_ecchead.specs.Opened.{Opened, opened_file}
 use Rattle.rs01_ecchead.specs.declared.opened.EccRefusal.{EccRefusal}
 use Rattle.rs01_ecchead.specs.declared.opened.EccRefusal.TheVariants as ecc
-use Rattle.rs01_linear.specs.Medium.{Found}
+use Rattle.rs01_linear.specs.Medium.{AnswersFile, Found, found, found_in_drives, found_in_file, plain}
 use Rattle.rs01_linear.specs.Refusal.{RefusesSizeAlone}
 use Rattle.rs01_linear.specs.declared.refusal.ReadRefusal.{ReadRefusal}
 use Rattle.rs01_linear.specs.declared.refusal.ReadRefusal.TheVariants.{DriveSize, Ecc, OutOfMemory, Rack, ReadFault, WriteFault}
@@ -58,3 +63,62 @@ SizedAlone name why = (n : ℕ) → why ≡ DriveSize n → IsTrue (is_none name
 
 pub sized_alone : (name : Option (Bor (List ℕ))) (why : ReadRefusal) → RefusesSizeAlone name why → SizedAlone (option_map (λ (n : Bor (List ℕ)). n.now) name) why
 sized_alone name why alone n is = none_named name (subst (λ (w : ReadRefusal). RefusesSizeAlone name w) is alone)
+
+-- what is answered of the file that is named, once the desk tells: it is refused so, or with any other answer but a fault of
+-- reading and want of memory it opens
+abbrev pub FileAnswer : {T : Type 0} → Option (Option (List ℕ)) → Result T ReadRefusal → Type 0
+FileAnswer given (Err (Ecc why)) = IsSomeAnd given (λ file. opened_file file ≡ Err why)
+FileAnswer given (Err ReadFault) = Unit {0}
+FileAnswer given (Err OutOfMemory) = Unit {0}
+FileAnswer given answer = ForSome given (λ file. IsOk (opened_file file))
+
+opens : (desk : DeskState) (name : Option (Bor (List ℕ))) → ForSome (option_map (λ (n : Bor (List ℕ)). desk.files n.now) name) (λ file. IsOk (opened_file file))
+    → ForSome (option_map desk.files (option_map (λ (n : Bor (List ℕ)). n.now) name)) (λ file. IsOk (opened_file file))
+opens desk name is = subst (λ (given : Option (Option (List ℕ))). ForSome given (λ file. IsOk (opened_file file))) (file_of desk.files name) is
+
+-- by the name of the file as it is passed
+pub file_answer : {T : Type 0} (desk : DeskState) (name : Option (Bor (List ℕ))) (answer : Result T ReadRefusal) → AnswersFile desk name answer
+    → IsTrue desk.tells → FileAnswer (option_map desk.files (option_map (λ (n : Bor (List ℕ)). n.now) name)) answer
+file_answer desk name (Ok value) is t = opens desk name (is t)
+file_answer desk name (Err (Ecc why)) is t =
+    subst (λ (given : Option (Option (List ℕ))). IsSomeAnd given (λ file. opened_file file ≡ Err why)) (file_of desk.files name) (is t)
+file_answer desk name (Err (Rack why)) is t = opens desk name (is t)
+file_answer desk name (Err (DriveSize n)) is t = opens desk name (is t)
+file_answer desk name (Err ReadFault) is t = tt
+file_answer desk name (Err WriteFault) is t = opens desk name (is t)
+file_answer desk name (Err OutOfMemory) is t = tt
+
+-- a file that is refused refuses the medium, whatever the drives tell
+pub refused_so : (given : Option (Option (List ℕ))) (views : List DriveView) (why : EccRefusal) → IsSomeAnd given (λ file. opened_file file ≡ Err why)
+    → fault_in read_fault (found given views) ≡ Some (read_fault (Ecc why))
+refused_so None views why is = absurd is
+refused_so (Some file) views why is = ap (λ (r : Result Opened EccRefusal). fault_in read_fault (found_in_file r (number_of views))) is
+
+rack_is_five : (why : RackRefusal) → status_of (read_fault (Rack why)) ≡ 5
+rack_is_five rack.NoDrive = refl
+rack_is_five (rack.Failed drive) = refl
+rack_is_five (rack.Differ first other) = refl
+
+five_not_three : (x why : Fault) → status_of x ≡ 5 → Some x ≡ Some why → status_of why ≡ 3 → ⊥
+five_not_three x why five e three = omega (arith, five, three, ap status_of (some_same x why e))
+
+unfit : (b : Bool) (n : ℕ) (why : Fault)
+    → fault_in {T = Found} read_fault (if b then Err (DriveSize n) else Ok (record { known = plain n; opened = None })) ≡ Some why → status_of why ≡ 3 → ⊥
+unfit true n why e three = five_not_three (read_fault (DriveSize n)) why refl e three
+unfit false n why e three = cc
+
+by_drives : (number : Result ℕ RackRefusal) (why : Fault) → fault_in read_fault (found_in_drives number) ≡ Some why → status_of why ≡ 3 → ⊥
+by_drives (Ok n) why e three = unfit ((n == 0) || nat_lt 16777215 n) n why e three
+by_drives (Err x) why e three = five_not_three (read_fault (Rack x)) why (rack_is_five x) e three
+
+by_file : (opened : Result Opened EccRefusal) (number : Result ℕ RackRefusal) (why : Fault) → IsOk opened
+    → fault_in read_fault (found_in_file opened number) ≡ Some why → status_of why ≡ 3 → ⊥
+by_file (Ok c) (Ok n) why ok e three = cc
+by_file (Ok c) (Err x) why ok e three = five_not_three (read_fault (Rack x)) why (rack_is_five x) e three
+by_file (Err x) number why ok e three = cc
+
+-- and one that opens doesn't
+pub not_by_file : (given : Option (Option (List ℕ))) (views : List DriveView) (why : Fault) → ForSome given (λ file. IsOk (opened_file file))
+    → fault_in read_fault (found given views) ≡ Some why → status_of why ≡ 3 → ⊥
+not_by_file None views why ok e three = by_drives (number_of views) why e three
+not_by_file (Some file) views why ok e three = by_file (opened_file file) (number_of views) why (ok file refl) e three

@@ -7,9 +7,9 @@ use Rattle.rs01_outside.specs.Files.{SameElsewhere}
 use Rattle.rs01_outside.specs.SinkState.{SinkState}
 use Rattle.rs01_rack.specs.Rack.{AllTell, RackState, views_of}
 use Rattle.rs01_linear.specs.Lasting as lasting
-use Rattle.rs01_linear.specs.Medium.{Found}
+use Rattle.rs01_linear.specs.Medium.{AnswersNamed, Found}
 use Rattle.rs01_linear.specs.Outcome.{RefusesBy}
-use Rattle.rs01_linear.specs.Refusal.{LeavesAll, RefusesSizeAlone, TellsFaults, is_read_fault, is_write_fault}
+use Rattle.rs01_linear.specs.Refusal.{LeavesAll, TellsFaults, is_read_fault, is_write_fault}
 use Rattle.rs01_linear.specs.Spared.{StaysGood}
 use Rattle.rs01_linear.specs.declared.refusal.ReadRefusal.{ReadRefusal}
 use Rattle.rs01_report.specs.declared.reports.ReadReport.{ReadReport}
@@ -22,8 +22,7 @@ use Rattle.rs01_top.specs.Read.{read_status}
 use Rattle.rs01_top.specs.Run.{Ends, IsRun}
 use Rattle.rs01_top.specs.Turned.{IsTurned, adaptive_work, turned_reading}
 use Rattle.rs01_top.proofs.Endings.{rack_lasts}
-use Rattle.rs01_top.proofs.MediumFaults.{sized_alone}
-use Rattle.rs01_top.proofs.Readings.{Fits, good_by, not_read, read, told_as, worked}
+use Rattle.rs01_top.proofs.Readings.{Fits, not_read, read, told_as, worked_by}
 
 -- what was left and told, and where it was left
 abbrev IsRead : ℕ → List ℕ → World → World → ReadReport → Found → Type 0
@@ -57,26 +56,26 @@ ToldBy image name tries old new result =
     → Reads (option_map (λ (n : Bor (List ℕ)). old.desk.files n.now) name) tries old.rack new.rack (old.desk.files image) (new.desk.files image) result
 
 turned_by : (image : List ℕ) (name : Option (Bor (List ℕ))) (tries : ℕ) (old new : World) (report : ReadReport) (status : ℕ)
-    → WorksOn image old.desk new.desk false false → StaysGood old.desk new.desk name image old.rack new.rack
-    → lasting.RackLasts old.rack new.rack → ToldBy image name tries old new (Ok report)
+    → WorksOn image old.desk new.desk false false → StaysGood old.desk new.desk name image old.rack new.rack → AnswersNamed old.desk name (Ok report)
+    → lasting.RackLasts old.rack new.rack → RefusesBy (Ok report) old.rack new.rack → ToldBy image name tries old new (Ok report)
     → Ends (read_lines report image) (read_status report) old.out new.out status
     → IsRun (adaptive_work image (option_map (λ (n : Bor (List ℕ)). n.now) name) tries) old new status
-turned_by image name tries old new report status works stays lasts is ends =
+turned_by image name tries old new report status works stays answers lasts by is ends =
     let ecc = option_map (λ (n : Bor (List ℕ)). n.now) name in
     read (turned_reading image ecc tries) (IsRead tries image old new) (IsLeft tries image old new) old new report status
-    (fits_turned image ecc tries old new works.elsewhere) (worked (turned_reading image ecc tries) old new (Ok report) works (good_by (turned_reading image ecc tries) name old new refl stays) tt tt) (rack_lasts old.rack new.rack lasts)
+    (fits_turned image ecc tries old new works.elsewhere) (worked_by (turned_reading image ecc tries) name old new (Ok report) refl works stays tt answers) (rack_lasts old.rack new.rack lasts) by
     (told_as (turned_reading image ecc tries) (IsRead tries image old new) (IsLeft tries image old new) name old new (Ok report) refl is) ends
 
 not_turned_by : (image : List ℕ) (name : Option (Bor (List ℕ))) (tries : ℕ) (old new : World) (why : ReadRefusal) (status : ℕ)
     → WorksOn image old.desk new.desk (is_read_fault {T = ReadReport} (Err why)) (is_write_fault {T = ReadReport} (Err why))
-    → StaysGood old.desk new.desk name image old.rack new.rack → LeavesAll old.desk new.desk why → lasting.RackLasts old.rack new.rack → RefusesBy {T = ReadReport} (Err why) old.rack new.rack → TellsFaults why → RefusesSizeAlone name why
+    → StaysGood old.desk new.desk name image old.rack new.rack → LeavesAll old.desk new.desk why → lasting.RackLasts old.rack new.rack → RefusesBy {T = ReadReport} (Err why) old.rack new.rack → TellsFaults why → AnswersNamed {T = ReadReport} old.desk name (Err why)
     → ToldBy image name tries old new (Err why)
     → Ends (fault_line (read_fault why)) (status_of (read_fault why)) old.out new.out status
     → IsRun (adaptive_work image (option_map (λ (n : Bor (List ℕ)). n.now) name) tries) old new status
-not_turned_by image name tries old new why status works stays untouched lasts by cause alone is ends =
+not_turned_by image name tries old new why status works stays untouched lasts by cause answers is ends =
     let ecc = option_map (λ (n : Bor (List ℕ)). n.now) name in
     not_read (turned_reading image ecc tries) (IsRead tries image old new) (IsLeft tries image old new) old new why status
-    (fits_turned image ecc tries old new works.elsewhere) (worked (turned_reading image ecc tries) old new (Err why) works (good_by (turned_reading image ecc tries) name old new refl stays) untouched (sized_alone name why alone)) (rack_lasts old.rack new.rack lasts) by cause
+    (fits_turned image ecc tries old new works.elsewhere) (worked_by (turned_reading image ecc tries) name old new (Err why) refl works stays untouched answers) (rack_lasts old.rack new.rack lasts) by cause
     (told_as (turned_reading image ecc tries) (IsRead tries image old new) (IsLeft tries image old new) name old new (Err why) refl is) ends
 
 -- by what a reading by turns answered
@@ -86,7 +85,7 @@ pub told_turned :
     → IsRun (adaptive_work image (option_map (λ (n : Bor (List ℕ)). n.now) name) tries) (world desk rack out) (world desk' rack' out') status
 told_turned image name tries desk desk' rack rack' out out' answer report status is it ends =
     let p = subst (λ (a : Result ReadReport ReadRefusal). IsTurned image name tries desk desk' a rack rack') is it in
-    turned_by image name tries (world desk rack out) (world desk' rack' out') report status p.works p.stays p.lasts p.told ends
+    turned_by image name tries (world desk rack out) (world desk' rack' out') report status p.works p.stays p.answers p.lasts p.refused p.told ends
 
 pub told_not_turned :
     (image : List ℕ) (name : Option (Bor (List ℕ))) (tries : ℕ) (desk desk' : DeskState) (rack rack' : RackState) (out out' : SinkState) (answer : Result ReadReport ReadRefusal) (why : ReadRefusal) (status : ℕ)
@@ -94,4 +93,4 @@ pub told_not_turned :
     → IsRun (adaptive_work image (option_map (λ (n : Bor (List ℕ)). n.now) name) tries) (world desk rack out) (world desk' rack' out') status
 told_not_turned image name tries desk desk' rack rack' out out' answer why status is it ends =
     let p = subst (λ (a : Result ReadReport ReadRefusal). IsTurned image name tries desk desk' a rack rack') is it in
-    not_turned_by image name tries (world desk rack out) (world desk' rack' out') why status p.works p.stays p.untouched p.lasts p.refused p.causes p.size p.told ends
+    not_turned_by image name tries (world desk rack out) (world desk' rack' out') why status p.works p.stays p.untouched p.lasts p.refused p.causes p.answers p.told ends

@@ -51,11 +51,11 @@ pub checked : (image ecc : List ℕ) (old new : DeskState) (out out' : SinkState
     → RunsAlone (verify_work image ecc) old new out out' status
 checked image ecc old new out out' report status reads answer ends =
     done (verify_work image ecc) [] old new out out' (verify_lines report image) (checked_status report) status
-    (not_of_words image ecc) (checked_range report) (works-reads [] old new false reads)
+    (not_of_words image ecc) refl (checked_range report) (works-reads [] old new false reads)
     (λ rack d. ap (λ (r : Result VerifyReport VerifyRefusal). fault_in verify_fault r) (answer d))
     (λ rack d. subst (λ (r : Result VerifyReport VerifyRefusal). IsOkAnd r (IsChecked image (told_by old rack) (told_by new rack) (verify_lines report image) (checked_status report)))
     (sym (answer d)) (record { files = reads.unchanged d; lines = refl; number = refl }))
-    (record { stands = λ rack d. reads.unchanged d; keeps = reads.unchanged })
+    (record { stands = λ rack d. reads.unchanged d; keeps = λ rack out out'. reads.unchanged })
     ends
 
 -- the files are refused
@@ -68,7 +68,7 @@ of_files image ecc old new out out' why status three reads answer ends =
     refused (verify_work image ecc) [] old new out out' (verify_fault why) status (not_of_words image ecc) three (works-reads [] old new false reads)
     (λ rack d. ap (λ (r : Result VerifyReport VerifyRefusal). fault_in verify_fault r) (answer d))
     (λ d. reads.unchanged d)
-    (record { stands = λ rack d. reads.unchanged d; keeps = reads.unchanged })
+    (record { stands = λ rack d. reads.unchanged d; keeps = λ rack out out'. reads.unchanged })
     ends
 
 pub not_checked : (image ecc : List ℕ) (old new : DeskState) (out out' : SinkState) (why : VerifyRefusal) (status : ℕ)
@@ -86,7 +86,7 @@ not_checked image ecc old new out out' (Body have want) status reads answer ends
     of_files image ecc old new out out' (Body have want) status refl reads (λ d. answer d tt) ends
 not_checked image ecc old new out out' ReadFault status reads answer ends =
     read_failed (verify_work image ecc) [] old new out out' status (not_of_words image ecc) (works-reads [] old new true reads)
-    (record { stands = λ rack d. reads.unchanged d; keeps = reads.unchanged }) ends
+    (record { stands = λ rack d. reads.unchanged d; keeps = λ rack out out'. reads.unchanged }) ends
 not_checked image ecc old new out out' OutOfMemory status reads answer ends =
     out_of_memory (verify_work image ecc) [] old new out out' status (not_of_words image ecc) (works-reads [] old new false reads)
-    (record { stands = λ rack d. reads.unchanged d; keeps = reads.unchanged }) ends
+    (record { stands = λ rack d. reads.unchanged d; keeps = λ rack out out'. reads.unchanged }) ends

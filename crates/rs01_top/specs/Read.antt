@@ -1,22 +1,22 @@
 -- The work of `read`, in whatever order it asks for the sectors, and that of reading in rising order.
-use Rattle.std.specs.Prelude.{ℕ, ◌≡◌, ◌≤◌, ◌+◌, ◌-◌, ◌^◌, ◌==◌, ◌&&◌, ◌⊎◌, false, true, if◌then◌else◌, List, length, IsOkAnd, IsSomeAnd, Option, Some, Result, Ok, Err, is_none, min}
+use Rattle.std.specs.Prelude.{ℕ, ◌≡◌, ◌≤◌, ◌+◌, ◌-◌, ◌^◌, ◌==◌, ◌&&◌, ◌⊎◌, false, true, if◌then◌else◌, List, length, IsOkAnd, IsSomeAnd, None, Option, Some, Result, Ok, Err, is_none, min}
 use Rattle.std.specs.Option.{option_map}
 use Rattle.rs01_ecchead.specs.Erased.{Known, image_len}
 use Rattle.rs01_linear.specs.Course.{Course, Manner, read_to, whole_reading}
 use Rattle.rs01_linear.specs.Lasting.{asks_in}
 use Rattle.rs01_linear.specs.Left.{image_left, marked}
 use Rattle.rs01_linear.specs.Outcome.{IsOnTheWay}
-use Rattle.rs01_linear.specs.Medium.{Found, IsKnownBy}
+use Rattle.rs01_linear.specs.Medium.{Found, IsKnownBy, Numbered}
 use Rattle.rs01_linear.specs.Report.{report_of}
 use Rattle.rs01_linear.specs.Spared.{Spares}
 use Rattle.rs01_linear.specs.declared.refusal.ReadRefusal.{ReadRefusal}
 use Rattle.rs01_outside.specs.DriveView.{DriveView}
-use Rattle.rs01_outside.specs.Files.{Becomes, Files, SameElsewhere, bytes_of}
+use Rattle.rs01_outside.specs.Files.{Becomes, SameElsewhere, bytes_of}
 use Rattle.rs01_rack.specs.Rack.{capped}
 use Rattle.rs01_report.specs.Texts.{read_lines}
 use Rattle.rs01_report.specs.declared.reports.ReadReport.{ReadReport}
 use Rattle.rs01_top.specs.Faults.{read_fault}
-use Rattle.rs01_top.specs.Outside.{Outside}
+use Rattle.rs01_top.specs.Outside.{Outside, World}
 use Rattle.rs01_top.specs.Scan.{medium_in}
 use Rattle.rs01_top.specs.Work.{Work, fault_in}
 
@@ -66,16 +66,17 @@ pub record MayStandAfterRead (reading : Reading) (old new : Outside) : Type 0 wh
   pub left : ReadsSoFar reading old new (medium_in reading.ecc old)
 
 -- the image file isn't shorter, and its good sectors and the bytes past the image are the same, by what the error
--- correction file tells of them, and without one by some number of sectors
-pub record HasGood (reading : Reading) (old new : Files) : Type 0 where
+-- correction file tells of them, and without one by the number of sectors that the drives gave
+pub record HasGood (reading : Reading) (old new : World) : Type 0 where
   pub known : Known
-  pub known_is : IsKnownBy (option_map old reading.ecc) known
-  pub spares : IsSomeAnd (new reading.image) (Spares known (bytes_of old reading.image))
+  pub known_is : IsKnownBy (option_map old.desk.files reading.ecc) known
+  pub number : reading.ecc ≡ None → Numbered known.sectors old.rack new.rack
+  pub spares : IsSomeAnd (new.desk.files reading.image) (Spares known (bytes_of old.desk.files reading.image))
 
 -- whatever the drives give: no other file has changed, and the image file is as before, or has what was good in it
-pub record KeepsGood (reading : Reading) (old new : Files) : Type 0 where
-  pub elsewhere : SameElsewhere reading.image old new
-  pub image : (new reading.image ≡ old reading.image) ⊎ HasGood reading old new
+pub record KeepsGood (reading : Reading) (old new : World) : Type 0 where
+  pub elsewhere : SameElsewhere reading.image old.desk.files new.desk.files
+  pub image : (new.desk.files reading.image ≡ old.desk.files reading.image) ⊎ HasGood reading old new
 
 abbrev pub work_of_reading : Reading → Work
 work_of_reading reading = record {

@@ -4,7 +4,7 @@ use Rattle.rs01_outside.specs.Causes.{Rose}
 use Rattle.rs01_outside.specs.DeskState.{DeskState}
 use Rattle.rs01_outside.specs.SinkState.{SinkState, Takes}
 use Rattle.rs01_linear.specs.Lasting as lasting
-use Rattle.rs01_linear.specs.Medium.{IsUnfit}
+use Rattle.rs01_linear.specs.Medium.{IsUnfit, Numbered}
 use Rattle.rs01_rack.specs.Counting.{GivesNumber}
 use Rattle.rs01_rack.specs.Rack.{AllTell, AtDrive, FaultsRose, RackState}
 use Rattle.rs01_rack.specs.declared.refusal.RackRefusal.TheVariants as racks
@@ -79,17 +79,25 @@ pub record TellsRefusal (work : Work) (old new : World) (status : ℕ) : Type 0 
   pub number : status_of why ≡ status
   pub line : Tells old.out new.out (fault_line why)
 
+-- a status of a run that is refused for its words, its files or its drives
+abbrev pub IsRefusal : ℕ → Type 0
+IsRefusal status = (status ≡ 2) ⊎ (status ≡ 3) ⊎ (status ≡ 5)
+
+-- what a refusal with this status comes from is known: that of words always, that of files where the desk tells, and that
+-- of drives where they tell too
+abbrev pub IsKnownFor : Work → World → World → ℕ → Type 0
+IsKnownFor work old new status = (status ≡ 2) ⊎ (IsTrue old.desk.tells × (status ≡ 3)) ⊎ IsKnown work old new
+
 -- status 2 comes only where the words are refused, 3 only where the files are and 5 only where the drives are, as far as
 -- they are known; the line of that refusal was put
 abbrev pub IsOnlyRefused : Work → World → World → ℕ → Type 0
-IsOnlyRefused work old new status =
-    (status ≡ 2) ⊎ (IsKnown work old new × ((status ≡ 3) ⊎ (status ≡ 5))) → TellsRefusal work old new status
+IsOnlyRefused work old new status = IsRefusal status → IsKnownFor work old new status → TellsRefusal work old new status
 
 -- a run that is refused has the refusal's status, unless the output fails, memory runs out, or a file can't be read or
 -- written before the refusal is found, which doesn't happen where the words are refused
 abbrev pub IsRefusedAs : Work → World → World → ℕ → Type 0
 IsRefusedAs work old new status = (why : Fault) → work.refusal (outside_of old) ≡ Some why
-    → (status_of why ≡ 2) ⊎ IsKnown work old new
+    → IsKnownFor work old new (status_of why)
     → (status ≡ status_of why) ⊎ (status ≡ 6) ⊎ (status ≡ 7) ⊎ ((status ≡ 4) × (status_of why ≢ 2))
 
 -- drives are refused for what they gave when each was asked for its number: there are none, or one failed, whose count
@@ -134,14 +142,15 @@ pub record IsQuiet (work : Work) (old new : World) (status : ℕ) : Type 0 where
   pub output : status ≡ 4 → new.out.faults ≡ old.out.faults
   pub settled : IsSettled status → NothingRose old.desk new.desk × (new.out.faults ≡ old.out.faults)
 
--- a status of a run that is refused for its words, its files or its drives
-abbrev pub IsRefusal : ℕ → Type 0
-IsRefusal status = (status ≡ 2) ⊎ (status ≡ 3) ⊎ (status ≡ 5)
+-- a run that was done asked the drives, where it uses them, and they gave a number of sectors, whatever they tell
+abbrev pub IsNumbered : Work → World → World → ℕ → Type 0
+IsNumbered work old new status =
+    (status ≡ 0) ⊎ (status ≡ 1) → IsTrue work.uses_drives → (n : ℕ) × Numbered n old.rack new.rack
 
 -- wherever the desk tells, whatever the drives are: what the work keeps has stayed, and a run that is refused has changed
 -- no file
 pub record IsKept (work : Work) (old new : World) (status : ℕ) : Type 0 where
-  pub files : IsTrue old.desk.tells → work.keeps old.desk.files new.desk.files
+  pub files : IsTrue old.desk.tells → work.keeps old new
   pub refused : IsTrue old.desk.tells → IsRefusal status → new.desk.files ≡ old.desk.files
 
 -- all of it
@@ -156,6 +165,7 @@ pub record IsRun (work : Work) (old new : World) (status : ℕ) : Type 0 where
   pub only_refused : IsOnlyRefused work old new status
   pub refused : IsRefusedAs work old new status
   pub cause : HasCause work old new status
+  pub numbered : IsNumbered work old new status
   pub quiet : IsQuiet work old new status
 
 -- a run that is not given the drives, so that they stay as they are, whatever they are

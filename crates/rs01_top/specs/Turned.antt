@@ -8,9 +8,9 @@ use Rattle.rs01_outside.specs.SinkState.{SinkState}
 use Rattle.rs01_rack.specs.Rack.{RackState}
 use Rattle.rs01_report.specs.declared.reports.ReadReport.{ReadReport}
 use Rattle.rs01_linear.specs.Lasting.{RackLasts}
-use Rattle.rs01_linear.specs.Medium.{Found}
+use Rattle.rs01_linear.specs.Medium.{AnswersNamed, Found}
 use Rattle.rs01_linear.specs.Outcome.{RefusesBy}
-use Rattle.rs01_linear.specs.Refusal.{LeavesAll, RefusesSizeAlone, TellsFaults, WorksBy}
+use Rattle.rs01_linear.specs.Refusal.{LeavesAll, TellsFaults, WorksBy}
 use Rattle.rs01_linear.specs.Spared.{StaysGood}
 use Rattle.rs01_linear.specs.declared.refusal.ReadRefusal.{ReadRefusal}
 use Rattle.rs01_adaptive.specs.Outcome.{IsLeftAt, OfWhole, TellsReading}
@@ -46,7 +46,7 @@ pub record IsTurned (image : List ℕ) (ecc : Option (Bor (List ℕ))) (tries : 
   pub works : WorksBy image desk desk' result
   pub lasts : RackLasts rack rack'
   pub causes : IfErr result TellsFaults
-  pub size : IfErr result (RefusesSizeAlone ecc)
+  pub answers : AnswersNamed desk ecc result
   pub untouched : IfErr result (LeavesAll desk desk')
   pub refused : RefusesBy result rack rack'
   pub told : TellsReading desk desk' ecc tries image result rack rack'

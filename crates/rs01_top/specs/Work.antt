@@ -1,9 +1,8 @@
 -- What a run has to do, whatever its command.
 use Rattle.std.specs.Prelude.{ℕ, ◌≡◌, Bool, false, true, List, Option, Some, None, Result, Ok, Err}
-use Rattle.rs01_outside.specs.Files.{Files}
 use Rattle.rs01_report.specs.declared.faults.Fault.{Fault}
 use Rattle.rs01_report.specs.Faults.{fault_line, status_of}
-use Rattle.rs01_top.specs.Outside.{Outside}
+use Rattle.rs01_top.specs.Outside.{Outside, World}
 
 pub record Work : Type 1 where
   -- the first fault of the words or of what is found, if any; the work is refused for it
@@ -13,8 +12,8 @@ pub record Work : Type 1 where
   pub done : Outside → Outside → List ℕ → ℕ → Type 0
   -- what may stand after any run, also after a fault or want of memory
   pub may_stand : Outside → Outside → Type 0
-  -- what stays of the files after any run, whatever the drives are
-  pub keeps : Files → Files → Type 0
+  -- what stays of the files after any run, whatever the drives tell
+  pub keeps : World → World → Type 0
   -- whether it only reads files
   pub only_reads : Bool
   -- whether it asks the drives; other work leaves them as they are
@@ -44,7 +43,7 @@ no_work why = record {
   refusal = λ found. Some why;
   done = λ old new put status. ⊥;
   may_stand = λ old new. new.files ≡ old.files;
-  keeps = λ old new. new ≡ old;
+  keeps = λ old new. new.desk.files ≡ old.desk.files;
   only_reads = true;
   uses_drives = false;
   sized_by_drives = false;

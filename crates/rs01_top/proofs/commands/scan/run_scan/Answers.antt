@@ -6,12 +6,12 @@ use Rattle.rs01_top.proofs.commands.scan.run_scan.Goals as goal
 
 pub returns-in-Ok : goal.returns-in-Ok
 returns-in-Ok g c = record {
-  run = scanned_by c.args.ecc _ _ c.in-Ok.report _ c.in-Ok.ensures.reads c.in-Ok.ensures.asked c.in-Ok.ensures.answer
+  run = scanned_by c.args.ecc _ _ c.in-Ok.report _ c.in-Ok.ensures.reads c.in-Ok.ensures.asked c.in-Ok.ensures.answers.file c.in-Ok.ensures.answer
       (record { put = c.put_scan.result; puts = c.put_scan.ensures; number = c.ended.ensures ∙ ap (ended c.put_scan.result) c.scanned_status.ensures });
 }
 
 pub returns-in-Err : goal.returns-in-Err
 returns-in-Err g c = record {
-  run = not_scanned_by c.args.ecc _ _ c.in-Err.why _ c.in-Err.ensures.reads c.in-Err.ensures.asked c.in-Err.ensures.causes c.in-Err.ensures.answers.size c.in-Err.ensures.answer
+  run = not_scanned_by c.args.ecc _ _ c.in-Err.why _ c.in-Err.ensures.reads c.in-Err.ensures.asked c.in-Err.ensures.causes c.in-Err.ensures.answers c.in-Err.ensures.answer
       (ends_by _ _ _ _ _ c.read_fault.ensures c.fail.ensures);
 }
