@@ -58,6 +58,9 @@ pub(crate) struct Progress {
     calls: Cell<u64>,
     bytes: Cell<u64>,
     sectors: Cell<u64>,
+    // whether sectors are asked for by turns, and not in rising order
+    by_turns: bool,
+    last: Cell<u64>,
     place: Cell<u64>,
     given: Cell<u32>,
     failed: Cell<u32>,
@@ -93,6 +96,16 @@ impl Progress {
             return None;
         }
         bytes_line(alloc, self.bytes.get(), total, millis).ok()
+    }
+
+    // A sector was asked for. In rising order all before it are done, and by turns those that were asked for so far.
+    fn reach(&self, sector: u64) {
+        let place = self.place.get();
+        if !self.by_turns {
+            self.place.set(place.max(sector));
+        } else if self.last.replace(sector) != sector {
+            self.place.set(place.saturating_add(1));
+        }
     }
 
     fn put(&self, text: &str) {
@@ -147,6 +160,14 @@ fn readings(command: &Command) -> (u64, u64) {
     }
 }
 
+// Whether a command asks drives by turns.
+fn is_by_turns(command: &Command) -> bool {
+    match command {
+        Command::Read { adaptive, .. } => *adaptive,
+        _ => false,
+    }
+}
+
 // The places of the names of an image and of its file.
 fn places(command: &Command) -> (Option<usize>, Option<usize>) {
     match command {
@@ -190,6 +211,8 @@ fn begin(
         calls: Cell::new(0),
         bytes: Cell::new(0),
         sectors: Cell::new(0),
+        by_turns: is_by_turns(&command),
+        last: Cell::new(0),
         place: Cell::new(0),
         given: Cell::new(0),
         failed: Cell::new(0),
@@ -280,9 +303,7 @@ impl Observer for Watcher {
 
     fn asked(&self, sector: u32, is_given: bool) {
         if let Some(progress) = &self.progress {
-            progress
-                .place
-                .set(progress.place.get().max(u64::from(sector) + 1));
+            progress.reach(u64::from(sector) + 1);
             if is_given {
                 count(&progress.given);
             } else {
